@@ -33,7 +33,7 @@ def test_page_examples_are_reproduced(tmp_path: pathlib.Path) -> None:
 
 
 def test_page_has_examples() -> None:
-    assert len(SESSIONS) == 4
+    assert len(SESSIONS) == 5
 
 
 def test_page_has_options_of_help() -> None:

@@ -19,7 +19,7 @@ use Rattle.memory_changes.specs.declared.changes.Changes.{Changes}
 use Rattle.memory_changes.proofs.Lists.{first_more}
 use Rattle.recording.specs.Classes.{class_of}
 use Rattle.recording.specs.Machines.{state_of}
-use Rattle.recording.specs.Runs.{is_counted, second_key, once_more, ran, share, shares, word_of as found_word}
+use Rattle.recording.specs.Runs.{is_counted, second_key, once_more, ran_by, share, shares, word_of as found_word}
 use Rattle.recording.specs.Sums.{HasMore, is_word, part_of, total}
 use Rattle.recording.specs.Totals.{AddsUp, counted_ticks, times_of}
 use Rattle.recording.specs.declared.class.Class.{Class}
@@ -95,15 +95,15 @@ counted found old rows sorted nothing more same = λ asked.
     }
 
 -- the last line, from the final state of a run and its counts
-last_is : (ticks times spent : ℕ) (s left : HartState) (end : Option StepEnd) → left ≡ (ran ticks s).state → end ≡ (ran ticks s).end
-    → times ≡ shares (ran ticks s).found (λ sums. sums.times) is_word % 2 ^ 64 → spent ≡ shares (ran ticks s).found (λ sums. sums.ticks) is_word % 2 ^ 64
-    → last_line left.scalar.pc end times spent ≡ end_of ticks s
-last_is ticks times spent s left end left_is stops times_are ticks_are = rw (left_is, stops, times_are, ticks_are) refl
+last_is : (next : ℕ → HartState → HartState) (ticks times spent : ℕ) (s left : HartState) (end : Option StepEnd) → left ≡ (ran_by next ticks s).state → end ≡ (ran_by next ticks s).end
+    → times ≡ shares (ran_by next ticks s).found (λ sums. sums.times) is_word % 2 ^ 64 → spent ≡ shares (ran_by next ticks s).found (λ sums. sums.ticks) is_word % 2 ^ 64
+    → last_line left.scalar.pc end times spent ≡ end_of next ticks s
+last_is next ticks times spent s left end left_is stops times_are ticks_are = rw (left_is, stops, times_are, ticks_are) refl
 
-pub end_is : (ticks : ℕ) (s left : HartState) (rows : List Row) (end : Option StepEnd) → AreCountsOf (ran ticks s).found rows → left ≡ (ran ticks s).state
-    → end ≡ (ran ticks s).end
-    → last_line left.scalar.pc end (total (λ sums. sums.times) is_word rows % 2 ^ 64) (total (λ sums. sums.ticks) is_word rows % 2 ^ 64) ≡ end_of ticks s
-end_is ticks s left rows end counts left_is stops = last_is ticks _ _ s left end left_is stops (counts is_word).times (counts is_word).ticks
+pub end_is : (next : ℕ → HartState → HartState) (ticks : ℕ) (s left : HartState) (rows : List Row) (end : Option StepEnd) → AreCountsOf (ran_by next ticks s).found rows → left ≡ (ran_by next ticks s).state
+    → end ≡ (ran_by next ticks s).end
+    → last_line left.scalar.pc end (total (λ sums. sums.times) is_word rows % 2 ^ 64) (total (λ sums. sums.ticks) is_word rows % 2 ^ 64) ≡ end_of next ticks s
+end_is next ticks s left rows end counts left_is stops = last_is next ticks _ _ s left end left_is stops (counts is_word).times (counts is_word).ticks
 
 -- ---- the totals of all instructions
 
@@ -132,14 +132,14 @@ wrapped : (n old sum all : ℕ) → n < 2 ^ 64 → old ≡ 0 → sum ≡ all →
 wrapped n old sum all small none same is = omega (arith, small, none, same, is)
 
 -- the last line, from the totals
-pub end_by_totals : (ticks times spent old_times old_spent : ℕ) (s left : HartState) (end : Option StepEnd) → times < 2 ^ 64 → spent < 2 ^ 64 → old_times ≡ 0 → old_spent ≡ 0
-    → AddsUp times_of old_times (ran ticks s).found times → AddsUp counted_ticks old_spent (ran ticks s).found spent
-    → left ≡ (ran ticks s).state → end ≡ (ran ticks s).end → last_line left.scalar.pc end times spent ≡ end_of ticks s
-end_by_totals ticks times spent old_times old_spent s left end few little no_times no_ticks times_are ticks_are left_is stops =
-    let all = (ran ticks s).found in
+pub end_by_totals : (next : ℕ → HartState → HartState) (ticks times spent old_times old_spent : ℕ) (s left : HartState) (end : Option StepEnd) → times < 2 ^ 64 → spent < 2 ^ 64 → old_times ≡ 0 → old_spent ≡ 0
+    → AddsUp times_of old_times (ran_by next ticks s).found times → AddsUp counted_ticks old_spent (ran_by next ticks s).found spent
+    → left ≡ (ran_by next ticks s).state → end ≡ (ran_by next ticks s).end → last_line left.scalar.pc end times spent ≡ end_of next ticks s
+end_by_totals next ticks times spent old_times old_spent s left end few little no_times no_ticks times_are ticks_are left_is stops =
+    let all = (ran_by next ticks s).found in
     let one = wrapped times old_times (sum_by times_of all) (shares all (λ sums. sums.times) is_word) few no_times (same_sum _ _ word_times all) times_are in
     let two = wrapped spent old_spent (sum_by counted_ticks all) (shares all (λ sums. sums.ticks) is_word) little no_ticks (same_sum _ _ word_ticks all) ticks_are in
-    last_is ticks times spent s left end left_is stops one two
+    last_is next ticks times spent s left end left_is stops one two
 
 -- ---- changes
 
@@ -170,8 +170,8 @@ log_printed took more first new file mid after window found printed last sink_is
     (more first.sink mid after (logged_from window 0 found) last written (subst (λ (l : List ℕ). took mid l after) last_is end))
 
 -- a run, whatever is said of it
-pub any_run : (file_bytes : Text → Option (List ℕ)) (arguments : List Text) (Ran : ℕ → List Place → Window → HartState → Type 0) → Recorded file_bytes arguments Ran
-    → Recorded file_bytes arguments (λ _ _ _ _. ⊤)
+pub any_run : (file_bytes : Text → Option (List ℕ)) (arguments : List Text) (Ran : (ℕ → HartState → HartState) → ℕ → List Place → Window → HartState → Type 0) → Recorded file_bytes arguments Ran
+    → Recorded file_bytes arguments (λ _ _ _ _ _. ⊤)
 any_run file_bytes arguments Ran recorded =
     let by = recorded.run in
     record {
@@ -182,6 +182,7 @@ any_run file_bytes arguments Ran recorded =
         memories = by.memories;
         places = by.places;
         window = by.window;
+        seed = by.seed;
         values = by.values;
         run = record { state = by.run.state; begins = by.run.begins; run = tt };
       };

@@ -1,11 +1,17 @@
 -- Runs that end with a fault: the output, and the reason for the exit status
-use Rattle.std.proofs.Common.{◌≡◌, ◌∙◌, [], ℕ, List, ap, append-nil, arith, flat_map, inl, inr, refl, subst, sym, Option, Some, Result, Ok, Err, IfErr, IsErrAnd}
+use Rattle.std.proofs.Common.{◌≡◌, ◌∙◌, [], ℕ, List, ap, append-nil, arith, flat_map, inl, inr, refl, subst, sym, Option, Some, None, Result, Ok, Err, IfErr, IsErrAnd}
 use Rattle.std.specs.Prelude.{◌⊎◌, IsSome, option_map}
 use Rattle.devices.specs.Device.{Rose}
-use Rattle.recording.specs.Runs.{TakesFirst, output_of, ran}
+use Rattle.recording.specs.Runs.{TakesFirst, output_of, ran_by}
 use Rattle.recording.specs.declared.fault.RecordFault.{RecordFault}
 use Rattle.recording.specs.declared.fault.RecordFault.TheVariants.{TableFull, Unmapped, Write}
 use Rattle.rv_model.specs.step.Hart.{HartState}
+use Rattle.open_choices.specs.declared.seeds.Seed.{Seed}
+use Rattle.std.proofs.Math.Path.{fun_ext}
+use Rattle.recording.specs.OpenRuns.{seeded_from}
+use Rattle.recording.specs.declared.open_chooser.OpenChooser.{OpenChooser}
+use Rattle.vec_recorder.specs.CommandLine.{RunArguments}
+use Rattle.vec_recorder.specs.OpenArguments.{AreChoicesOf, next_of}
 use Rattle.vec_recorder.specs.Recorded.{IsStopped, IsUnstarted}
 use Rattle.vec_recorder.specs.Statuses.{HasCause, program_status, record_fault}
 use Rattle.vec_recorder.specs.declared.program_fault.ProgramFault.{ProgramFault}
@@ -15,9 +21,9 @@ stopped_status TableFull = refl
 stopped_status Unmapped = refl
 stopped_status (Write name) = refl
 
-pub whole_first : {K : Type 0} (took : K → List ℕ → K → Type 0) (ticks : ℕ) (s : HartState) (before after : K) → took before (flat_map output_of (ran ticks s).found) after → TakesFirst took before (flat_map output_of (ran ticks s).found) after
-whole_first took ticks s before after whole =
-    record { first = flat_map output_of (ran ticks s).found; rest = []; are_first = append-nil (flat_map output_of (ran ticks s).found); took = whole }
+pub whole_first : {K : Type 0} (took : K → List ℕ → K → Type 0) (next : ℕ → HartState → HartState) (ticks : ℕ) (s : HartState) (before after : K) → took before (flat_map output_of (ran_by next ticks s).found) after → TakesFirst took before (flat_map output_of (ran_by next ticks s).found) after
+whole_first took next ticks s before after whole =
+    record { first = flat_map output_of (ran_by next ticks s).found; rest = []; are_first = append-nil (flat_map output_of (ran_by next ticks s).found); took = whole }
 
 not_early : (fault : ProgramFault) → program_status fault ≡ 5 → (program_status fault ≡ 2) ⊎ ((program_status fault ≡ 4) ⊎ (program_status fault ≡ 6)) → ⊥
 not_early fault five status = elim status [
@@ -25,47 +31,47 @@ not_early fault five status = elim status [
   | inr other ↦ elim other [ inl four ↦ omega (arith, five, four) | inr six ↦ omega (arith, five, six) ]
 ]
 
-module _ {K : Type 0} (took : K → List ℕ → K → Type 0) (ticks : ℕ) (s : HartState) (Cause : Type 0) where
+module _ {K : Type 0} (took : K → List ℕ → K → Type 0) (next : ℕ → HartState → HartState) (ticks : ℕ) (s : HartState) (Cause : Type 0) where
   -- before the first instruction
-  pub unstarted : (k : K) (fault : ProgramFault) → took k [] k → program_status fault ≡ 5 → Cause → IsStopped took ticks s k k Cause fault
+  pub unstarted : (k : K) (fault : ProgramFault) → took k [] k → program_status fault ≡ 5 → Cause → IsStopped took next ticks s k k Cause fault
   unstarted k fault none five cause =
-      record { status = five; first = record { first = []; rest = flat_map output_of (ran ticks s).found; are_first = refl; took = none }; cause = cause }
+      record { status = five; first = record { first = []; rest = flat_map output_of (ran_by next ticks s).found; are_first = refl; took = none }; cause = cause }
 
   -- after the last instruction
-  pub stopped_late : (before after : K) (fault : ProgramFault) → took before (flat_map output_of (ran ticks s).found) after → program_status fault ≡ 5 → Cause
-      → IsStopped took ticks s before after Cause fault
+  pub stopped_late : (before after : K) (fault : ProgramFault) → took before (flat_map output_of (ran_by next ticks s).found) after → program_status fault ≡ 5 → Cause
+      → IsStopped took next ticks s before after Cause fault
   stopped_late before after fault whole five cause =
       record {
         status = five;
-        first = record { first = flat_map output_of (ran ticks s).found; rest = []; are_first = append-nil (flat_map output_of (ran ticks s).found); took = whole };
+        first = record { first = flat_map output_of (ran_by next ticks s).found; rest = []; are_first = append-nil (flat_map output_of (ran_by next ticks s).found); took = whole };
         cause = cause;
       }
 
   -- while the recorder or the output failed
-  pub stopped_by : {T : Type 0} (before after : K) (stopped : RecordFault) (r : Result T ProgramFault) → TakesFirst took before (flat_map output_of (ran ticks s).found) after → Cause
-      → IsErrAnd r (λ fault. fault ≡ record_fault stopped) → IfErr r (IsStopped took ticks s before after Cause)
+  pub stopped_by : {T : Type 0} (before after : K) (stopped : RecordFault) (r : Result T ProgramFault) → TakesFirst took before (flat_map output_of (ran_by next ticks s).found) after → Cause
+      → IsErrAnd r (λ fault. fault ≡ record_fault stopped) → IfErr r (IsStopped took next ticks s before after Cause)
   stopped_by before after stopped (Ok x) first cause is = tt
   stopped_by before after stopped (Err fault) first cause is = record { status = ap program_status is ∙ stopped_status stopped; first = first; cause = cause }
 
-  pub stopped_as : (before after : K) (stopped : RecordFault) (fault : ProgramFault) → TakesFirst took before (flat_map output_of (ran ticks s).found) after → Cause
-      → fault ≡ record_fault stopped → IsStopped took ticks s before after Cause fault
+  pub stopped_as : (before after : K) (stopped : RecordFault) (fault : ProgramFault) → TakesFirst took before (flat_map output_of (ran_by next ticks s).found) after → Cause
+      → fault ≡ record_fault stopped → IsStopped took next ticks s before after Cause fault
   stopped_as before after stopped fault first cause is = record { status = ap program_status is ∙ stopped_status stopped; first = first; cause = cause }
 
   -- a fault that is passed on, for the reason of the caller
-  pub passed_on : {T Old : Type 0} (before after : K) {fault : ProgramFault} (r : Result T ProgramFault) → (Old → Cause) → IsStopped took ticks s before after Old fault
-      → IsErrAnd r (λ e. e ≡ fault) → IfErr r (IsStopped took ticks s before after Cause)
+  pub passed_on : {T Old : Type 0} (before after : K) {fault : ProgramFault} (r : Result T ProgramFault) → (Old → Cause) → IsStopped took next ticks s before after Old fault
+      → IsErrAnd r (λ e. e ≡ fault) → IfErr r (IsStopped took next ticks s before after Cause)
   passed_on before after (Ok x) wider stopped is = tt
   passed_on before after (Err e) wider stopped is = record { status = ap program_status is ∙ stopped.status; first = stopped.first; cause = wider stopped.cause }
 
   -- a result that is passed on, for the reason of the caller
-  pub widened : {T Old : Type 0} (before after : K) (r : Result T ProgramFault) → (Old → Cause) → IfErr r (IsStopped took ticks s before after Old)
-      → IfErr r (IsStopped took ticks s before after Cause)
+  pub widened : {T Old : Type 0} (before after : K) (r : Result T ProgramFault) → (Old → Cause) → IfErr r (IsStopped took next ticks s before after Old)
+      → IfErr r (IsStopped took next ticks s before after Cause)
   widened before after (Ok x) wider of = tt
   widened before after (Err e) wider of = record { status = of.status; first = of.first; cause = wider of.cause }
 
   -- the output accepts nothing with exit status 2, 4 or 6
   pub nothing_by : {T O : Type 0} (before after : K) (old new : O) {fault : ProgramFault} (r : Result T ProgramFault)
-      → IsUnstarted took before after old new fault ⊎ IsStopped took ticks s before after Cause fault → IsErrAnd r (λ e. e ≡ fault)
+      → IsUnstarted took before after old new fault ⊎ IsStopped took next ticks s before after Cause fault → IsErrAnd r (λ e. e ≡ fault)
       → IfErr r (λ e. (program_status e ≡ 2) ⊎ ((program_status e ≡ 4) ⊎ (program_status e ≡ 6)) → took before [] after)
   nothing_by before after old new (Ok x) ended is = tt
   nothing_by before after old new (Err e) (inl unstarted) is = λ status. unstarted.nothing
@@ -73,7 +79,7 @@ module _ {K : Type 0} (took : K → List ℕ → K → Type 0) (ticks : ℕ) (s 
 
   -- no file is created with exit status 2, 4 or 6
   pub unused_by : {T O : Type 0} (before after : K) (old new : O) {fault : ProgramFault} (r : Result T ProgramFault)
-      → IsUnstarted took before after old new fault ⊎ IsStopped took ticks s before after Cause fault → IsErrAnd r (λ e. e ≡ fault)
+      → IsUnstarted took before after old new fault ⊎ IsStopped took next ticks s before after Cause fault → IsErrAnd r (λ e. e ≡ fault)
       → IfErr r (λ e. (program_status e ≡ 2) ⊎ ((program_status e ≡ 4) ⊎ (program_status e ≡ 6)) → new ≡ old)
   unused_by before after old new (Ok x) ended is = tt
   unused_by before after old new (Err e) (inl unstarted) is = λ status. unstarted.files
@@ -81,7 +87,7 @@ module _ {K : Type 0} (took : K → List ℕ → K → Type 0) (ticks : ℕ) (s 
 
   -- the reason for exit status 5
   pub caused_by : {T O : Type 0} (before after : K) (old new : O) {fault : ProgramFault} (r : Result T ProgramFault)
-      → IsUnstarted took before after old new fault ⊎ IsStopped took ticks s before after Cause fault → IsErrAnd r (λ e. e ≡ fault)
+      → IsUnstarted took before after old new fault ⊎ IsStopped took next ticks s before after Cause fault → IsErrAnd r (λ e. e ≡ fault)
       → IfErr r (λ e. program_status e ≡ 5 → Cause)
   caused_by before after old new (Ok x) ended is = tt
   caused_by before after old new (Err e) (inl unstarted) is = λ five. let six : program_status e ≡ 6 = ap program_status is ∙ unstarted.status in absurd (omega (arith, five, six))
@@ -115,3 +121,14 @@ wider_cause same same_writes wider (inr (inr (inr other))) = inr (inr (inr (wide
 
 pub some_is : {A B : Type 0} (f : A → B) (o : Option A) (x : A) → o ≡ Some x → IsSome (option_map f o)
 some_is {A} f o x is = subst (λ (o : Option A). IsSome (option_map f o)) (sym is) refl
+
+-- a run with choices has neither counts nor changes
+pub alone : (arguments : RunArguments) (seed : Option Seed) → AreChoicesOf arguments seed → IsSome seed → (arguments.counts ≡ None) × (arguments.changes ≡ None)
+alone arguments (Some seed) are some = (are.no_counts, are.no_changes)
+alone arguments None are some = absurd (cc some)
+
+-- the choices of a chooser before the first instruction
+pub chosen_next : (chooser : OpenChooser) (seed : Seed) → chooser.seed ≡ seed → chooser.done ≡ 0
+    → ◌≡◌ {A = ℕ → HartState → HartState} (λ k s. seeded_from chooser.seed chooser.done k s) (next_of (Some seed))
+chosen_next chooser seed same none =
+    fun_ext (λ (k : ℕ). fun_ext (λ (s : HartState). ap (λ c. seeded_from c chooser.done k s) same ∙ ap (λ d. seeded_from seed d k s) none))

@@ -2,6 +2,7 @@ pub mod InitialMachine
 pub mod CommandLine
 pub mod KeyOrder
 pub mod MemoryArguments
+pub mod OpenArguments
 pub mod Paths
 pub mod RecordLines
 pub mod Recorded

@@ -4,7 +4,7 @@ use Rattle.devices.specs.Device.{Rose}
 use Rattle.recording.specs.declared.fault.RecordFault.{RecordFault}
 use Rattle.recording.specs.declared.fault.RecordFault.TheVariants as stopped
 use Rattle.vec_recorder.specs.declared.program_fault.ProgramFault.{ProgramFault}
-use Rattle.vec_recorder.specs.declared.program_fault.ProgramFault.TheVariants.{NoText, Usage, Policy, Ticks, MemoryArgument, WatchArgument, WatchAlone, From, To, FromAboveTo, LogAlone, LogEnd, SameOutput, OutputIsInput, NoPlace, LostPlace, RepeatedRow, Write, TableFull, NoMemory}
+use Rattle.vec_recorder.specs.declared.program_fault.ProgramFault.TheVariants.{NoText, Usage, Policy, Ticks, MemoryArgument, WatchArgument, WatchAlone, From, To, FromAboveTo, LogAlone, LogEnd, Open, Kinds, OpenFrom, OpenTo, OpenFromAboveTo, OpenElements, OpenAlone, OpenWith, SameOutput, OutputIsInput, LostPlace, RepeatedRow, Write, TableFull, NoMemory}
 
 -- invalid arguments have exit status 2, faults of the initial machine 4, faults of records and output 5, and lack of memory 6
 abbrev pub program_status : ProgramFault → ℕ
@@ -20,6 +20,14 @@ program_status To = 2
 program_status FromAboveTo = 2
 program_status LogAlone = 2
 program_status LogEnd = 2
+program_status Open = 2
+program_status Kinds = 2
+program_status OpenFrom = 2
+program_status OpenTo = 2
+program_status OpenFromAboveTo = 2
+program_status OpenElements = 2
+program_status (OpenAlone option) = 2
+program_status (OpenWith option) = 2
 program_status (SameOutput first second) = 2
 program_status (OutputIsInput output input) = 2
 program_status LostPlace = 5

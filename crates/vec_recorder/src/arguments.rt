@@ -29,6 +29,11 @@ pub fn options<'a>(alloc: Global, arguments: &'a [&'a str]) -> Result<Options<'a
         log: matches.get_str("log"),
         from: matches.get_str("from"),
         to: matches.get_str("to"),
+        seed: matches.get_str("open"),
+        kinds: matches.get_str("kinds"),
+        open_from: matches.get_str("open-from"),
+        open_to: matches.get_str("open-to"),
+        open_elements: matches.get_str("open-elements"),
         image: matches.get_str("image"),
     })
 }

@@ -39,6 +39,16 @@ const FROM_HELP: &str = "The first instruction in the log, 1 to 2^63 [default: 1
 
 const TO_HELP: &str = "The last instruction in the log, 1 to 2^63 [default: 2^63]";
 
+const OPEN_HELP: &str = "Make the choices that the standard leaves open by a seed, 0 to 2^64 - 1";
+
+const KINDS_HELP: &str = "Choose only these kinds: tail, masked, trim, length [default: all]";
+
+const OPEN_FROM_HELP: &str = "The first instruction with choices, 1 to 2^63 [default: 1]";
+
+const OPEN_TO_HELP: &str = "The last instruction with choices, 1 to 2^63 [default: 2^63]";
+
+const OPEN_ELEMENTS_HELP: &str = "Choose only elements A to B, 0 to 255 [default: all]";
+
 /// The values of the options, as text.
 #[derive(Debug, Drop)]
 pub struct Options<'a> {
@@ -62,6 +72,16 @@ pub struct Options<'a> {
     pub from: Option<&'a str>,
     /// The number of the last instruction in the log.
     pub to: Option<&'a str>,
+    /// The seed of open choices.
+    pub seed: Option<&'a str>,
+    /// The kinds of choices.
+    pub kinds: Option<&'a str>,
+    /// The number of the first instruction with choices, counted from 1.
+    pub open_from: Option<&'a str>,
+    /// The number of the last instruction with choices.
+    pub open_to: Option<&'a str>,
+    /// The elements that may be chosen.
+    pub open_elements: Option<&'a str>,
     /// The path of the image.
     pub image: Option<&'a str>,
 }
@@ -142,5 +162,10 @@ pub fn command<'a>(alloc: Global) -> Result<Command<'a>, AllocError>
         .arg(option(alloc, "log", "FILE", LOG_HELP))?
         .arg(option(alloc, "from", "N", FROM_HELP))?
         .arg(option(alloc, "to", "N", TO_HELP))?
+        .arg(option(alloc, "open", "SEED", OPEN_HELP))?
+        .arg(option(alloc, "kinds", "KIND,...", KINDS_HELP))?
+        .arg(option(alloc, "open-from", "N", OPEN_FROM_HELP))?
+        .arg(option(alloc, "open-to", "N", OPEN_TO_HELP))?
+        .arg(option(alloc, "open-elements", "A-B", OPEN_ELEMENTS_HELP))?
         .arg(image(alloc))
 }

@@ -7,6 +7,7 @@ mod initial_machine;
 mod log_arguments;
 mod memory_arguments;
 mod numbers;
+mod open_arguments;
 mod outputs;
 mod paths;
 mod program;

@@ -3,6 +3,7 @@ ghost use Rattle.std.specs.Prelude.{◌≡◌, ◌<◌, ◌≤◌, ◌^◌, IfEr
 ghost use Rattle.rv_model.specs.commands.Arguments.{decimal_number, number_between};
 ghost use Rattle.rv_model.specs.lending.Text.{capped};
 ghost use Rattle.vec_recorder.specs.CommandLine.{number_or_default, policy_or_default};
+ghost use Rattle.vec_recorder.specs.OpenArguments.{seed_number};
 ghost use Rattle.vec_recorder.specs.Statuses.{program_status};
 ghost use Rattle.vec_recorder.specs.declared.program_fault.ProgramFault.TheVariants as program_fault;
 
@@ -13,13 +14,13 @@ use rv_model::Policy;
 use rv_model::text::digits;
 
 /// The maximum number of ticks or instructions. No run reaches it.
-const MOST_TICKS: u64 = 1 << 63;
+pub(crate) const MOST_TICKS: u64 = 1 << 63;
 
 /// Larger numbers are parsed as this value.
 const CAP: u128 = 1 << 64;
 
 /// Return the value of a decimal number without leading zeros, or [`CAP`] for a larger one.
-fn decimal_number(word: &[u8]) -> Option<u128>
+pub(crate) fn decimal_number(word: &[u8]) -> Option<u128>
     ensures { result ≡ capped (2 ^ 64) (decimal_number word.now) }
 {
     if let [] | [b'0', _, ..] = word {
@@ -34,6 +35,18 @@ fn ticks_number(word: &[u8]) -> Option<u64>
 {
     let value = decimal_number(word)?;
     if value >= 1 && value <= u128::from(MOST_TICKS) {
+        Some(value as u64)
+    } else {
+        None
+    }
+}
+
+/// Return the value of a decimal number below 2^64.
+pub(crate) fn seed_number(word: &[u8]) -> Option<u64>
+    ensures { result ≡ seed_number word.now }
+{
+    let value = decimal_number(word)?;
+    if value < CAP {
         Some(value as u64)
     } else {
         None
@@ -70,7 +83,7 @@ pub(crate) fn policy<'a>(word: Option<&str>) -> Result<Policy, ProgramFault<'a>>
 }
 
 /// Return the number in an option's value, or `other` without the option.
-fn number_or_default(word: Option<&str>, other: u64) -> Option<u64>
+pub(crate) fn number_or_default(word: Option<&str>, other: u64) -> Option<u64>
     ensures { result ≡ number_or_default other (option_map (λ word. word.now) word.entry) }
 {
     let Some(word) = word else {

@@ -4,10 +4,11 @@ ghost use Rattle.clap.specs.Walk.{texts};
 ghost use Rattle.clap.specs.Words.{IsAmong};
 ghost use Rattle.clap.specs.declared.error.kind.ErrorKind.TheVariants.{DisplayHelp};
 ghost use Rattle.recording.specs.Machines.{state_of};
-ghost use Rattle.recording.specs.Runs.{TakesFirst, output_of, ran};
+ghost use Rattle.recording.specs.Runs.{TakesFirst, output_of, ran_by};
 ghost use Rattle.first_state.specs.Loaded.{entered};
 ghost use Rattle.first_state.specs.OwnMemory.{own_memory};
 ghost use Rattle.vec_recorder.specs.CommandLine.{option_arguments, arguments_fault, run_arguments};
+ghost use Rattle.vec_recorder.specs.OpenArguments.{next_of};
 ghost use Rattle.vec_recorder.specs.Recorded.{IsComplete, IsHelped, Recorded, RecordedBy, RunBy};
 ghost use Rattle.vec_recorder.specs.Statuses.{HasCause, program_status};
 
@@ -17,6 +18,7 @@ use crate::initial_machine::prepare;
 use crate::log_arguments::check_log;
 use crate::memory_arguments::{MemoryPath, memory_paths};
 use crate::numbers::{policy, ticks, window};
+use crate::open_arguments::open_seed;
 use crate::outputs::{Outputs, ProcessFiles};
 use crate::paths::check_paths;
 use crate::program_fault::{ProgramFault, STATUS_DONE};
@@ -26,6 +28,7 @@ use commit_log::Window;
 use devices::{Inputs, Sink, TextFault, WriterSink, write_text};
 use first_state::{OwnBytes, enter};
 use memory_changes::{Place, has_memory};
+use open_choices::Seed;
 use recording::SingleUserMachine;
 use rv_model::Policy;
 use std::alloc::Global;
@@ -56,6 +59,7 @@ struct CheckedOptions<'a> {
     memories: Vec<MemoryPath<'a>>,
     places: Vec<Place>,
     window: Window,
+    seed: Option<Seed>,
 }
 
 /// Run a machine that was just created with these values. The record files are created once all memory is allocated.
@@ -71,15 +75,16 @@ fn run_options<'a, I: Inputs, F: Outputs, K: Sink>(
     output: &mut K,
     files: &mut F,
 ) -> Result<u64, ProgramFault<'a>>
-    requires { IfOk created (λ machine. (state_of own_memory machine ≡ entered machine.policy)
+    requires machine { IfOk created (λ machine. (state_of own_memory machine ≡ entered machine.policy)
         × (machine.policy ≡ values.policy)) }
+    requires alone { IsSome values.seed → ((option_arguments options.now).counts ≡ None) × ((option_arguments options.now).changes ≡ None) }
     ensures ran { OnOk result (RunBy (I.file_bytes inputs.now) (option_arguments options.now) values.entry.policy
         values.entry.memories.items (IsComplete F.is_created F.Created.took F.is_closed
         (λ printed. K.took output.old printed output.new) (option_arguments options.now) files.old files.new
-        values.entry.ticks values.entry.places.items values.entry.window)) }
+        (next_of values.entry.seed) values.entry.ticks values.entry.places.items values.entry.window)) }
     ensures printed { K.took output.old [] output.new ⊎ RunBy (I.file_bytes inputs.now) (option_arguments options.now)
         values.entry.policy values.entry.memories.items (λ state. TakesFirst K.took output.old
-        (flat_map output_of (ran values.entry.ticks state).found) output.new) }
+        (flat_map output_of (ran_by (next_of values.entry.seed) values.entry.ticks state).found) output.new) }
     ensures nothing { IfErr result (λ fault.
         (program_status fault ≡ 2) ⊎ ((program_status fault ≡ 4) ⊎ (program_status fault ≡ 6)) → K.took output.old [] output.new) }
     ensures unused { IfErr result (λ fault.
@@ -95,6 +100,7 @@ fn run_options<'a, I: Inputs, F: Outputs, K: Sink>(
         memories,
         places,
         window,
+        seed,
         ..
     } = values;
     let Ok(mut machine) = created else {
@@ -116,6 +122,7 @@ fn run_options<'a, I: Inputs, F: Outputs, K: Sink>(
         places,
         log: options.log,
         window,
+        seed,
     };
     let short = run_machine(files, alloc, &mut machine, output, asked)?;
     Ok(short)
@@ -134,8 +141,8 @@ fn record_options<'a, I: Inputs, F: Outputs, K: Sink>(
         (IsComplete F.is_created F.Created.took F.is_closed (λ printed. K.took output.old printed output.new)
         (option_arguments options.now) files.old files.new)) }
     ensures printed { K.took output.old [] output.new
-        ⊎ RecordedBy (I.file_bytes inputs.now) (option_arguments options.now) (λ ticks _ _ state.
-        TakesFirst K.took output.old (flat_map output_of (ran ticks state).found) output.new) }
+        ⊎ RecordedBy (I.file_bytes inputs.now) (option_arguments options.now) (λ next ticks _ _ state.
+        TakesFirst K.took output.old (flat_map output_of (ran_by next ticks state).found) output.new) }
     ensures nothing { IfErr result (λ fault.
         (program_status fault ≡ 2) ⊎ ((program_status fault ≡ 4) ⊎ (program_status fault ≡ 6)) → K.took output.old [] output.new) }
     ensures unused { IfErr result (λ fault.
@@ -150,6 +157,7 @@ fn record_options<'a, I: Inputs, F: Outputs, K: Sink>(
     let ticks = ticks(options.ticks)?;
     let window = window(options.from, options.to)?;
     check_log(options)?;
+    let seed = open_seed(options)?;
     let memories = memory_paths(alloc, options.memory.as_slice())?;
     let places = watched_places(alloc, options.watch.as_slice())?;
     if places.is_empty() != options.changes.is_none() {
@@ -162,6 +170,7 @@ fn record_options<'a, I: Inputs, F: Outputs, K: Sink>(
         memories,
         places,
         window,
+        seed,
     };
     run_options(
         inputs,
@@ -190,8 +199,8 @@ fn record_arguments<'a, I: Inputs, F: Outputs, K: Sink>(
         (run_arguments (texts arguments.now)) files.old files.new)) }
     ensures printed { K.took output.old [] output.new
         ⊎ (IsHelped (texts arguments.now) (λ printed. K.took output.old printed output.new) files.old files.new
-        ⊎ Recorded (I.file_bytes inputs.now) (texts arguments.now) (λ ticks _ _ state.
-        TakesFirst K.took output.old (flat_map output_of (ran ticks state).found) output.new)) }
+        ⊎ Recorded (I.file_bytes inputs.now) (texts arguments.now) (λ next ticks _ _ state.
+        TakesFirst K.took output.old (flat_map output_of (ran_by next ticks state).found) output.new)) }
     ensures nothing { IfErr result (λ fault.
         (program_status fault ≡ 2) ⊎ ((program_status fault ≡ 4) ⊎ (program_status fault ≡ 6)) → K.took output.old [] output.new) }
     ensures unused { IfErr result (λ fault.
@@ -254,8 +263,8 @@ pub fn record_into<R: Inputs + Eprint, F: Outputs, K: Sink>(
     // For every exit status, the output is empty, help, or a prefix of the output of the run that the arguments describe.
     ensures printed { K.took output.old [] output.new
         ⊎ (IsHelped (texts arguments.now) (λ printed. K.took output.old printed output.new) files.old files.new
-        ⊎ Recorded (R.file_bytes rt.now) (texts arguments.now) (λ ticks _ _ state.
-        TakesFirst K.took output.old (flat_map output_of (ran ticks state).found) output.new)) }
+        ⊎ Recorded (R.file_bytes rt.now) (texts arguments.now) (λ next ticks _ _ state.
+        TakesFirst K.took output.old (flat_map output_of (ran_by next ticks state).found) output.new)) }
     ensures nothing { (result ≡ 2) ⊎ ((result ≡ 4) ⊎ (result ≡ 6)) → K.took output.old [] output.new }
     // No file was created, written or closed.
     ensures unused { (result ≡ 2) ⊎ ((result ≡ 4) ⊎ (result ≡ 6)) → files.new ≡ files.old }
@@ -282,7 +291,7 @@ pub fn record_into<R: Inputs + Eprint, F: Outputs, K: Sink>(
 pub fn record<R: Inputs + Files + Print + Eprint>(rt: &R, alloc: Global, arguments: &[&str]) -> u8
     ensures statuses { (result ≡ 0) ⊎ ((result ≡ 2) ⊎ ((result ≡ 4) ⊎ ((result ≡ 5) ⊎ (result ≡ 6)))) }
     ensures recorded { result ≡ 0 → IsAmong DisplayHelp (arguments_fault (texts arguments.now))
-        ⊎ Recorded (R.file_bytes rt.now) (texts arguments.now) (λ _ _ _ _. ⊤) }
+        ⊎ Recorded (R.file_bytes rt.now) (texts arguments.now) (λ _ _ _ _ _. ⊤) }
 {
     record_into(
         rt,

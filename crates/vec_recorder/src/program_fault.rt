@@ -62,6 +62,30 @@ pub enum ProgramFault<'a> {
     /// A log without a limit is written to a file that isn't a device.
     #[error("vecmon-record: --log needs --ticks or --to, unless FILE begins with /dev/\n")]
     LogEnd,
+    /// The value of `--open` isn't a number below 2^64.
+    #[error("vecmon-record: --open needs a number up to 18446744073709551615\n")]
+    Open,
+    /// The value of `--kinds` isn't a list of kinds.
+    #[error("vecmon-record: --kinds needs kinds with commas between them: tail, masked, trim, length\n")]
+    Kinds,
+    /// The value of `--open-from` isn't a number from 1 to 2^63.
+    #[error("vecmon-record: --open-from needs a number from 1 to 9223372036854775808\n")]
+    OpenFrom,
+    /// The value of `--open-to` isn't a number from 1 to 2^63.
+    #[error("vecmon-record: --open-to needs a number from 1 to 9223372036854775808\n")]
+    OpenTo,
+    /// The value of `--open-from` is above that of `--open-to`.
+    #[error("vecmon-record: --open-from needs a number up to that of --open-to\n")]
+    OpenFromAboveTo,
+    /// The value of `--open-elements` isn't a range of elements.
+    #[error("vecmon-record: --open-elements needs A-B, two numbers from 0 to 255, A up to B\n")]
+    OpenElements,
+    /// This option is given without `--open`.
+    #[error("vecmon-record: {0} needs --open\n")]
+    OpenAlone(&'static str),
+    /// This option is given with `--open`.
+    #[error("vecmon-record: --open can't be combined with {0}\n")]
+    OpenWith(&'static str),
     /// Two options name the same output file.
     #[error("vecmon-record: {0} and {1} name the same file; use a different path for each\n")]
     SameOutput(&'static str, &'static str),
@@ -120,6 +144,14 @@ impl ProgramFault<'_> {
             | ProgramFault::FromAboveTo
             | ProgramFault::LogAlone
             | ProgramFault::LogEnd
+            | ProgramFault::Open
+            | ProgramFault::Kinds
+            | ProgramFault::OpenFrom
+            | ProgramFault::OpenTo
+            | ProgramFault::OpenFromAboveTo
+            | ProgramFault::OpenElements
+            | ProgramFault::OpenAlone(_)
+            | ProgramFault::OpenWith(_)
             | ProgramFault::SameOutput(_, _)
             | ProgramFault::OutputIsInput(_, _) => STATUS_USAGE,
             ProgramFault::Read(_)

@@ -1,11 +1,12 @@
 //! A run with its records: counts, changes, and a log, each of them optional.
-ghost use Rattle.std.specs.Prelude.{◌≡◌, ◌⊎◌, ◌<◌, ◌%◌, ◌^◌, ◌++◌, [], IfErr, IfOk, IfSome, IsSome, OnErr, OnOk, flat_map, option_map, ⊤};
+ghost use Rattle.std.specs.Prelude.{◌≡◌, ◌⊎◌, ◌<◌, ◌%◌, ◌^◌, ◌++◌, [], IfErr, IfOk, IfSome, IsSome, OnErr, OnOk, None, flat_map, option_map, ⊤};
 ghost use Rattle.devices.specs.Device.{Rose};
 ghost use Rattle.recording.specs.Machines.{state_of};
-ghost use Rattle.recording.specs.Runs.{TakesFirst, output_of, ran};
+ghost use Rattle.recording.specs.Runs.{TakesFirst, output_of, ran_by, stepped};
 ghost use Rattle.recording.specs.Sums.{is_word, total};
 ghost use Rattle.recording.specs.declared.fault.RecordFault.{RecordFault};
 ghost use Rattle.first_state.specs.OwnMemory.{own_memory};
+ghost use Rattle.vec_recorder.specs.OpenArguments.{next_of};
 ghost use Rattle.vec_recorder.specs.RecordLines.{last_line, row_line};
 ghost use Rattle.vec_recorder.specs.Recorded.{AreChangesKept, AreRecordsKept, IsLogKept, IsStopped, IsUnstarted, RecordsRun};
 ghost use Rattle.vec_recorder.specs.Statuses.{HasCause, program_status, record_fault};
@@ -17,9 +18,10 @@ use commit_log::{Log, Text, Window};
 use devices::{DeviceFault, Sink};
 use first_state::OwnBytes;
 use memory_changes::{Changes, Place, WatchedPlaces};
+use open_choices::Seed;
 use recording::{
-    Counts, NoChoices, RecordFault, Recorder, RecorderPair, Retired, Row, ShortWrites,
-    SingleUserMachine, run, totals,
+    Chooser, Counts, NoChoices, OpenChooser, RecordFault, Recorder, RecorderPair, Retired, Row,
+    ShortWrites, SingleUserMachine, run, totals,
 };
 use rv_model::StepEnd;
 use std::alloc::{AllocError, Global};
@@ -84,7 +86,7 @@ fn write_counts<C: Sink>(
 }
 
 /// The parameters of a run: the maximum number of ticks, the paths of the files of counts, changes and log, if there are
-/// any, the watched ranges, and the range of instructions in the log.
+/// any, the watched ranges, the range of instructions in the log, and the seed of choices, if there are any.
 #[derive(Drop)]
 pub(crate) struct RecordedRun<'a> {
     pub ticks: u64,
@@ -93,6 +95,7 @@ pub(crate) struct RecordedRun<'a> {
     pub places: Vec<Place>,
     pub log: Option<&'a str>,
     pub window: Window,
+    pub seed: Option<Seed>,
 }
 
 /// The path of a log file, and memory for lines that aren't written yet.
@@ -133,41 +136,43 @@ fn log_output<'a>(alloc: Global, path: Option<&'a str>) -> Result<Option<LogOutp
 
 /// Run and record a program without a log. Return how it ended, and the record.
 #[inline(never)]
-fn run_unlogged<K: Sink, O: Recorder<OwnBytes> + Drop>(
+fn run_unlogged<K: Sink, O: Recorder<OwnBytes> + Drop, C: Chooser<OwnBytes>>(
     machine: &mut SingleUserMachine<OwnBytes>,
     output: &mut K,
     ticks: u64,
+    chooser: &mut C,
     recorder: O,
 ) -> Result<(Option<StepEnd>, O), RecordFault>
-    ensures run { IfOk result (RecordsRun O.recorded K.took ticks (state_of own_memory machine.old)
+    ensures run { IfOk result (RecordsRun O.recorded K.took (C.next chooser.old) ticks (state_of own_memory machine.old)
         (state_of own_memory machine.new) output.old output.new recorder) }
     ensures part { OnErr result (TakesFirst K.took output.old
-        (flat_map output_of (ran ticks (state_of own_memory machine.old)).found) output.new) }
+        (flat_map output_of (ran_by (C.next chooser.old) ticks (state_of own_memory machine.old)).found) output.new) }
     ensures failed { IfErr result (λ fault. Rose (K.failures output.old) (K.failures output.new)
         ⊎ ((last : O) × O.failed last fault)) }
 {
     let mut only = recorder;
-    let end = run(&mut only, &mut NoChoices {}, machine, output, ticks)?;
+    let end = run(&mut only, chooser, machine, output, ticks)?;
     Ok((end, only))
 }
 
 /// Run and record a program, and write its log if there is a file for it. Return how it ended, and the record. The
 /// function isn't inlined because the loop of a run is faster then.
 #[inline(never)]
-fn run_recorded<'a, F: Outputs, K: Sink, O: Recorder<OwnBytes> + Drop>(
+fn run_recorded<'a, F: Outputs, K: Sink, O: Recorder<OwnBytes> + Drop, C: Chooser<OwnBytes>>(
     files: &mut F,
     machine: &mut SingleUserMachine<OwnBytes>,
     output: &mut K,
     asked: LoggedRun<'a>,
+    chooser: &mut C,
     recorder: O,
 ) -> Result<(Option<StepEnd>, O), ProgramFault<'a>>
     requires { IfSome asked.log (λ log. log.text ≡ []) }
-    ensures run { IfOk result (RecordsRun O.recorded K.took asked.entry.ticks (state_of own_memory machine.old)
+    ensures run { IfOk result (RecordsRun O.recorded K.took (C.next chooser.old) asked.entry.ticks (state_of own_memory machine.old)
         (state_of own_memory machine.new) output.old output.new recorder) }
     ensures log { OnOk result (IsLogKept F.is_created F.Created.took F.is_closed
-        (option_map (λ log. log.path.now) asked.entry.log) asked.entry.window asked.entry.ticks
+        (option_map (λ log. log.path.now) asked.entry.log) asked.entry.window (C.next chooser.old) asked.entry.ticks
         (state_of own_memory machine.old) files.old files.new) }
-    ensures stopped { IfErr result (IsStopped K.took asked.entry.ticks (state_of own_memory machine.old)
+    ensures stopped { IfErr result (IsStopped K.took (C.next chooser.old) asked.entry.ticks (state_of own_memory machine.old)
         output.old output.new (HasCause ((last : O) × ((fault : RecordFault) × O.failed last fault))
         (K.failures output.old) (K.failures output.new) (F.failures files.old) (F.failures files.new)
         (F.write_failures files.old) (F.write_failures files.new))) }
@@ -176,7 +181,7 @@ fn run_recorded<'a, F: Outputs, K: Sink, O: Recorder<OwnBytes> + Drop>(
 {
     let LoggedRun { ticks, log, window } = asked;
     let Some(log) = log else {
-        return Ok(run_unlogged(machine, output, ticks, recorder)?);
+        return Ok(run_unlogged(machine, output, ticks, chooser, recorder)?);
     };
     let LogOutput { path, text } = log;
     let file = created_file(files, path)?;
@@ -188,7 +193,7 @@ fn run_recorded<'a, F: Outputs, K: Sink, O: Recorder<OwnBytes> + Drop>(
             second: log,
         },
     };
-    let end = match run(&mut both, &mut NoChoices {}, machine, output, ticks) {
+    let end = match run(&mut both, chooser, machine, output, ticks) {
         Ok(end) => end,
         Err(stopped) => {
             let RecorderPair { second, .. } = both;
@@ -222,13 +227,13 @@ fn run_watched<'a, F: Outputs, K: Sink, O: Recorder<OwnBytes> + Drop>(
     recorder: O,
 ) -> Result<(Option<StepEnd>, O), ProgramFault<'a>>
     requires { IfSome asked.logged.log (λ log. log.text ≡ []) }
-    ensures run { IfOk result (RecordsRun O.recorded K.took asked.entry.logged.ticks (state_of own_memory machine.old)
+    ensures run { IfOk result (RecordsRun O.recorded K.took stepped asked.entry.logged.ticks (state_of own_memory machine.old)
         (state_of own_memory machine.new) output.old output.new recorder) }
     ensures changes { OnOk result (AreChangesKept F.is_created F.Created.took F.is_closed
         (option_map (λ path. path.now) asked.entry.changes) (option_map (λ log. log.path.now) asked.entry.logged.log)
-        asked.entry.watched.places.items asked.entry.logged.window asked.entry.logged.ticks
+        asked.entry.watched.places.items asked.entry.logged.window stepped asked.entry.logged.ticks
         (state_of own_memory machine.old) files.old files.new) }
-    ensures stopped { IfErr result (IsStopped K.took asked.entry.logged.ticks (state_of own_memory machine.old)
+    ensures stopped { IfErr result (IsStopped K.took stepped asked.entry.logged.ticks (state_of own_memory machine.old)
         output.old output.new (HasCause
         (((last : O) × ((fault : RecordFault) × O.failed last fault)) ⊎ IsSome (option_map (λ path. path.now) asked.entry.changes))
         (K.failures output.old) (K.failures output.new) (F.failures files.old) (F.failures files.new)
@@ -242,7 +247,7 @@ fn run_watched<'a, F: Outputs, K: Sink, O: Recorder<OwnBytes> + Drop>(
         watched,
     } = asked;
     let Some(path) = changes else {
-        return run_recorded(files, machine, output, logged, recorder);
+        return run_recorded(files, machine, output, logged, &mut NoChoices {}, recorder);
     };
     let file = created_file(files, path)?;
     let both = RecorderPair {
@@ -252,7 +257,7 @@ fn run_watched<'a, F: Outputs, K: Sink, O: Recorder<OwnBytes> + Drop>(
             second: Changes::new(file, watched),
         },
     };
-    let (end, both) = run_recorded(files, machine, output, logged, both)?;
+    let (end, both) = run_recorded(files, machine, output, logged, &mut NoChoices {}, both)?;
     let RecorderPair { first, second } = both;
     let RecorderPair {
         first: retired,
@@ -280,12 +285,12 @@ fn run_counted<'a, F: Outputs, K: Sink>(
     requires text { IfSome asked.logged.log (λ log. log.text ≡ []) }
     requires rows { counts.table.rows.items ≡ [] }
     ensures output { OnOk result (K.took output.old
-        (flat_map output_of (ran asked.entry.logged.ticks (state_of own_memory machine.old)).found) output.new) }
+        (flat_map output_of (ran_by stepped asked.entry.logged.ticks (state_of own_memory machine.old)).found) output.new) }
     ensures records { OnOk result (AreRecordsKept F.is_created F.Created.took F.is_closed
         (Some path.entry.now) (option_map (λ path. path.now) asked.entry.changes)
         (option_map (λ log. log.path.now) asked.entry.logged.log) asked.entry.watched.places.items asked.entry.logged.window
-        asked.entry.logged.ticks (state_of own_memory machine.old) files.old files.new) }
-    ensures stopped { IfErr result (IsStopped K.took asked.entry.logged.ticks (state_of own_memory machine.old)
+        stepped asked.entry.logged.ticks (state_of own_memory machine.old) files.old files.new) }
+    ensures stopped { IfErr result (IsStopped K.took stepped asked.entry.logged.ticks (state_of own_memory machine.old)
         output.old output.new ⊤) }
     ensures kept { F.failures files.old < F.failures files.new → F.are_kept files.old files.new }
 {
@@ -307,10 +312,37 @@ fn run_counted<'a, F: Outputs, K: Sink>(
     Ok(both.first.count)
 }
 
-/// Run a program, and write its counts, the changes of watched ranges and its log to the files whose paths are given.
-/// All memory is allocated before a file is created. Return the number of the program's write calls that wrote fewer
-/// bytes than requested.
-pub(crate) fn run_machine<'a, F: Outputs, K: Sink>(
+/// Run a program with the choices of a seed, and write its log if there is a file for it. Return the number of the
+/// program's write calls that wrote fewer bytes than requested.
+fn run_chosen<'a, F: Outputs, K: Sink>(
+    files: &mut F,
+    machine: &mut SingleUserMachine<OwnBytes>,
+    output: &mut K,
+    asked: LoggedRun<'a>,
+    seed: Seed,
+) -> Result<u64, ProgramFault<'a>>
+    requires { IfSome asked.log (λ log. log.text ≡ []) }
+    ensures output { OnOk result (K.took output.old
+        (flat_map output_of (ran_by (next_of (Some seed)) asked.entry.ticks (state_of own_memory machine.old)).found) output.new) }
+    ensures log { OnOk result (IsLogKept F.is_created F.Created.took F.is_closed
+        (option_map (λ log. log.path.now) asked.entry.log) asked.entry.window (next_of (Some seed)) asked.entry.ticks
+        (state_of own_memory machine.old) files.old files.new) }
+    ensures stopped { IfErr result (IsStopped K.took (next_of (Some seed)) asked.entry.ticks (state_of own_memory machine.old)
+        output.old output.new (HasCause ⊥
+        (K.failures output.old) (K.failures output.new) (F.failures files.old) (F.failures files.new)
+        (F.write_failures files.old) (F.write_failures files.new))) }
+    ensures kept { F.failures files.old < F.failures files.new → F.are_kept files.old files.new }
+{
+    let mut chooser = OpenChooser::new(seed);
+    let short = ShortWrites::none();
+    let (_, short) = run_recorded(files, machine, output, asked, &mut chooser, short)?;
+    Ok(short.count)
+}
+
+/// Run a program without choices, and write its counts, the changes of watched ranges and its log to the files whose
+/// paths are given. All memory is allocated before a file is created. Return the number of the program's write calls
+/// that wrote fewer bytes than requested.
+fn run_unchosen<'a, F: Outputs, K: Sink>(
     files: &mut F,
     alloc: Global,
     machine: &mut SingleUserMachine<OwnBytes>,
@@ -318,13 +350,13 @@ pub(crate) fn run_machine<'a, F: Outputs, K: Sink>(
     asked: RecordedRun<'a>,
 ) -> Result<u64, ProgramFault<'a>>
     ensures output { OnOk result (K.took output.old
-        (flat_map output_of (ran asked.entry.ticks (state_of own_memory machine.old)).found) output.new) }
+        (flat_map output_of (ran_by stepped asked.entry.ticks (state_of own_memory machine.old)).found) output.new) }
     ensures records { OnOk result (AreRecordsKept F.is_created F.Created.took F.is_closed
         (option_map (λ path. path.now) asked.entry.counts) (option_map (λ path. path.now) asked.entry.changes)
         (option_map (λ path. path.now) asked.entry.log) asked.entry.places.items asked.entry.window
-        asked.entry.ticks (state_of own_memory machine.old) files.old files.new) }
+        stepped asked.entry.ticks (state_of own_memory machine.old) files.old files.new) }
     ensures stopped { IfErr result (λ fault. IsUnstarted K.took output.old output.new files.old files.new fault
-        ⊎ IsStopped K.took asked.entry.ticks (state_of own_memory machine.old)
+        ⊎ IsStopped K.took stepped asked.entry.ticks (state_of own_memory machine.old)
         output.old output.new (HasCause
         (IsSome (option_map (λ path. path.now) asked.entry.counts)
         ⊎ IsSome (option_map (λ path. path.now) asked.entry.changes))
@@ -339,6 +371,7 @@ pub(crate) fn run_machine<'a, F: Outputs, K: Sink>(
         places,
         log,
         window,
+        ..
     } = asked;
     let Ok(log) = log_output(alloc, log) else {
         return Err(ProgramFault::NoMemory);
@@ -355,4 +388,46 @@ pub(crate) fn run_machine<'a, F: Outputs, K: Sink>(
     };
     let counts = Counts::new(alloc)?;
     run_counted(files, machine, output, asked, path, counts)
+}
+
+/// Run a program, with the choices of a seed if there is one, and write its counts, the changes of watched ranges and its
+/// log to the files whose paths are given. All memory is allocated before a file is created. Return the number of the
+/// program's write calls that wrote fewer bytes than requested.
+pub(crate) fn run_machine<'a, F: Outputs, K: Sink>(
+    files: &mut F,
+    alloc: Global,
+    machine: &mut SingleUserMachine<OwnBytes>,
+    output: &mut K,
+    asked: RecordedRun<'a>,
+) -> Result<u64, ProgramFault<'a>>
+    requires alone { IsSome asked.seed → (option_map (λ path. path.now) asked.counts ≡ None) × (option_map (λ path. path.now) asked.changes ≡ None) }
+    ensures output { OnOk result (K.took output.old
+        (flat_map output_of (ran_by (next_of asked.entry.seed) asked.entry.ticks (state_of own_memory machine.old)).found) output.new) }
+    ensures records { OnOk result (AreRecordsKept F.is_created F.Created.took F.is_closed
+        (option_map (λ path. path.now) asked.entry.counts) (option_map (λ path. path.now) asked.entry.changes)
+        (option_map (λ path. path.now) asked.entry.log) asked.entry.places.items asked.entry.window
+        (next_of asked.entry.seed) asked.entry.ticks (state_of own_memory machine.old) files.old files.new) }
+    ensures stopped { IfErr result (λ fault. IsUnstarted K.took output.old output.new files.old files.new fault
+        ⊎ IsStopped K.took (next_of asked.entry.seed) asked.entry.ticks (state_of own_memory machine.old)
+        output.old output.new (HasCause
+        (IsSome (option_map (λ path. path.now) asked.entry.counts)
+        ⊎ IsSome (option_map (λ path. path.now) asked.entry.changes))
+        (K.failures output.old) (K.failures output.new) (F.failures files.old) (F.failures files.new)
+        (F.write_failures files.old) (F.write_failures files.new)) fault) }
+    ensures kept { F.failures files.old < F.failures files.new → F.are_kept files.old files.new }
+{
+    let Some(seed) = asked.seed else {
+        return run_unchosen(files, alloc, machine, output, asked);
+    };
+    let RecordedRun {
+        ticks,
+        log,
+        window,
+        ..
+    } = asked;
+    let Ok(log) = log_output(alloc, log) else {
+        return Err(ProgramFault::NoMemory);
+    };
+    let logged = LoggedRun { ticks, log, window };
+    run_chosen(files, machine, output, logged, seed)
 }

@@ -19,4 +19,9 @@ returns c =
     let eighth = c.in_ok-arg-8.ensures.shape c.option-6.ensures.local ∙ ap₂ with_rule seventh c.option-6.ensures.rule in
     let ninth = c.in_ok-arg-9.ensures.shape c.option-7.ensures.local ∙ ap₂ with_rule eighth c.option-7.ensures.rule in
     let tenth = c.in_ok-arg-10.ensures.shape c.option-8.ensures.local ∙ ap₂ with_rule ninth c.option-8.ensures.rule in
-    IfOk-weaker c.arg-11.result _ _ (λ command added. added.shape c.image.ensures.local ∙ ap₂ with_rule tenth c.image.ensures.rule) c.arg-11.ensures
+    let eleventh = c.in_ok-arg-11.ensures.shape c.option-9.ensures.local ∙ ap₂ with_rule tenth c.option-9.ensures.rule in
+    let twelfth = c.in_ok-arg-12.ensures.shape c.option-10.ensures.local ∙ ap₂ with_rule eleventh c.option-10.ensures.rule in
+    let thirteenth = c.in_ok-arg-13.ensures.shape c.option-11.ensures.local ∙ ap₂ with_rule twelfth c.option-11.ensures.rule in
+    let fourteenth = c.in_ok-arg-14.ensures.shape c.option-12.ensures.local ∙ ap₂ with_rule thirteenth c.option-12.ensures.rule in
+    let fifteenth = c.in_ok-arg-15.ensures.shape c.option-13.ensures.local ∙ ap₂ with_rule fourteenth c.option-13.ensures.rule in
+    IfOk-weaker c.arg-16.result _ _ (λ command added. added.shape c.image.ensures.local ∙ ap₂ with_rule fifteenth c.image.ensures.rule) c.arg-16.ensures

@@ -3,7 +3,7 @@ use Rattle.std.specs.Prelude.{◌⊎◌, IsSome, flat_map}
 use Rattle.std.proofs.lemmas.Result.{on_ok_weaker}
 use Rattle.clap.specs.Walk.{texts}
 use Rattle.clap.specs.Words.{IsAmong}
-use Rattle.recording.specs.Runs.{TakesFirst, output_of, ran}
+use Rattle.recording.specs.Runs.{TakesFirst, output_of, ran_by}
 use Rattle.vec_recorder.specs.CommandLine.{arguments_fault, IsRefusedFor}
 use Rattle.vec_recorder.specs.Recorded.{IsComplete, RecordedBy}
 use Rattle.vec_recorder.specs.Statuses.{HasCause, program_status}
@@ -29,7 +29,7 @@ returns-in-Ok g c =
         | inr first ↦ inr (inr (record {
           accepted = asked.taken refl;
           run = subst
-              (λ them. RecordedBy file_bytes them (λ ticks _ _ state. TakesFirst g.K.Sink.took c.args.output.now (flat_map output_of (ran ticks state).found) c.record_options.new.output))
+              (λ them. RecordedBy file_bytes them (λ next ticks _ _ state. TakesFirst g.K.Sink.took c.args.output.now (flat_map output_of (ran_by next ticks state).found) c.record_options.new.output))
               asked.arguments first;
         }))
       ];
