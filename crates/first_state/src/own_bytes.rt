@@ -2,6 +2,7 @@
 ghost use Rattle.std.specs.Prelude.{◌≡◌, length};
 ghost use Rattle.rv_model.specs.machine.Setup.{user_count};
 
+use lent_bytes::Edit;
 use rv_model::{Access, Fault, User};
 use std::alloc::{Allocator, Global};
 use user_mem::Pool;
@@ -54,6 +55,16 @@ impl<A: Allocator> UserBytes for OwnBytes<A> {
     #[inline(always)]
     fn try_read(&self, addr: u64, access: Access, bytes: &mut [u8]) -> bool {
         self.pool.try_read(own_user(), addr, access, bytes)
+    }
+
+    #[inline(always)]
+    fn lend(&self, addr: u64, access: Access) -> &[u8] {
+        self.pool.lend(own_user(), addr, access)
+    }
+
+    #[inline(always)]
+    fn edit<E: Edit>(&mut self, addr: u64, edit: &E) -> Option<usize> {
+        self.pool.edit(own_user(), addr, edit)
     }
 
     #[tactic(auto, using(crate::specs::Replaced::own_memory_there))]

@@ -4,6 +4,7 @@ ghost use Rattle.std.specs.Prelude.{◌≡◌, ◌≤◌, ◌<◌, ◌-◌, leng
 
 use hart::Vectors;
 use lazy_context::Unit;
+use lent_bytes::Edit;
 use rv_model::{Access, Fault, Seat, User};
 use std::alloc::Allocator;
 use user_mem::Pool;
@@ -45,6 +46,16 @@ impl<A: Allocator> UserBytes for UserMemory<'_, A> {
     #[inline(always)]
     fn try_read(&self, addr: u64, access: Access, bytes: &mut [u8]) -> bool {
         self.pool.try_read(self.user, addr, access, bytes)
+    }
+
+    #[inline(always)]
+    fn lend(&self, addr: u64, access: Access) -> &[u8] {
+        self.pool.lend(self.user, addr, access)
+    }
+
+    #[inline(always)]
+    fn edit<E: Edit>(&mut self, addr: u64, edit: &E) -> Option<usize> {
+        self.pool.edit(self.user, addr, edit)
     }
 
     #[tactic(auto, using(crate::specs::UserAdapters::memory_written))]

@@ -1,4 +1,5 @@
 //! The memory of one user, which instructions borrow.
+use lent_bytes::Edit;
 use rv_model::{Access, Fault, PAGE_SIZE, Permissions, USER_COUNT, User};
 use std::alloc::Global;
 use user_mem::Pool;
@@ -60,6 +61,14 @@ impl UserBytes for UserMemory {
 
     fn read(&self, addr: u64, access: Access, bytes: &mut [u8]) -> Result<(), Fault> {
         self.pool.read(self.user, addr, access, bytes)
+    }
+
+    fn lend(&self, addr: u64, access: Access) -> &[u8] {
+        self.pool.lend(self.user, addr, access)
+    }
+
+    fn edit<E: Edit>(&mut self, addr: u64, edit: &E) -> Option<usize> {
+        self.pool.edit(self.user, addr, edit)
     }
 
     #[tactic(auto, using(user_mem::proofs::UserLaws::replaces_own))]

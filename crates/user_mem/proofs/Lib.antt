@@ -1,5 +1,6 @@
 pub mod TableLaws
 pub mod SearchLaws
+pub mod EditLaws
 pub mod FrameLaws
 pub mod CountLaws
 pub mod PoolLaws

@@ -1,15 +1,17 @@
 //! Accesses to a user's bytes. An access within one page is a single copy if the page is cached in the user's
 //! translations; all others proceed page by page.
-ghost use Rattle.std.specs.Prelude.{◌≡◌, ℕ, List, ◌≤◌, ◌↔◌, false, true, IsOk, IfErr, OnOk, OnErr, length};
+ghost use Rattle.std.specs.Prelude.{◌≡◌, ℕ, List, ◌+◌, ◌^◌, ◌≤◌, ◌↔◌, false, true, None, IsOk, IfErr, IfSome};
+ghost use Rattle.std.specs.Prelude.{OnOk, OnErr, length};
 ghost use Rattle.rv_model.specs.memory.Memory.{can_access, bytes_at, put_bytes};
 ghost use Rattle.user_mem.specs.declared.entry.Entry.{Entry};
 ghost use Rattle.user_mem.specs.Table.{memory_of, IsSorted, AreBelow, FitIn, AreSeparate, AreApart};
 ghost use Rattle.user_mem.specs.Translations.{Translates};
 
 use crate::entry::Entry;
-use crate::frames::{copy_in, copy_out, paste};
+use crate::frames::{FRAME_SIZE, copy_in, copy_out, paste};
 use crate::table::is_access_allowed;
 use crate::translations::Translations;
+use lent_bytes::Edit;
 use rv_model::{Access, Fault};
 
 /// Return whether the access to all `len` bytes from `addr` on is allowed.
@@ -56,6 +58,27 @@ pub(crate) fn try_read(
         return true;
     }
     false
+}
+
+/// Lend the bytes of the page that starts at `addr` if it is cached and permits the access, and otherwise no bytes.
+#[inline(always)]
+pub(crate) fn lend<'a>(
+    entries: &[Entry],
+    translations: &Translations,
+    frames: &'a [u8],
+    access: Access,
+    addr: u64,
+) -> &'a [u8]
+    requires translated { Translates entries.now translations.now }
+    requires fit { FitIn entries.now (length frames.now) }
+    ensures end { addr + length result.now ≤ 2 ^ 64 }
+    ensures allowed { can_access access (memory_of frames.now entries.now) addr (length result.now) ≡ true }
+    ensures value { result.now ≡ bytes_at (memory_of frames.now entries.now) addr (length result.now) }
+{
+    match translations.place(access, addr, FRAME_SIZE) {
+        Some(at) => &frames[at..at + FRAME_SIZE],
+        None => &frames[..0],
+    }
 }
 
 /// Read bytes from `addr` on, page by page, until the buffer is full. If a byte's access isn't allowed, return a fault
@@ -121,6 +144,33 @@ pub(crate) fn try_write(
         return true;
     }
     false
+}
+
+/// Pass the bytes of the page that starts at `addr` to an edit, if the page is cached and its bytes may be stored. Return
+/// the edit's result; `None` changes nothing.
+#[inline(always)]
+pub(crate) fn edit_page<E: Edit>(
+    entries: &[Entry],
+    translations: &Translations,
+    frames: &mut [u8],
+    addr: u64,
+    edit: &E,
+) -> Option<usize>
+    requires translated { Translates entries.now translations.now }
+    requires fit { FitIn entries.now (length frames.old) }
+    requires separate { AreSeparate entries.now }
+    ensures changed { IfSome result (λ n. E.changes edit.now
+        (memory_of frames.old entries.now) n (memory_of frames.new entries.now)) }
+    ensures others { (other : List Entry) → AreApart entries.now other
+        → memory_of frames.new other ≡ memory_of frames.old other }
+    ensures unchanged { result ≡ None → frames.new ≡ frames.old }
+    ensures size { length frames.new ≡ length frames.old }
+{
+    if let Some(at) = translations.place(Access::Store, addr, FRAME_SIZE) {
+        let next = edit.edit(addr, &mut frames[at..at + FRAME_SIZE]);
+        return Some(next);
+    }
+    None
 }
 
 /// Write bytes from `addr` on, page by page. If a byte's access isn't allowed, return a fault with `addr`, and write

@@ -1,6 +1,6 @@
 //! The memories of all users.
-ghost use Rattle.std.specs.Prelude.{◌≡◌, ◌<◌, ◌≤◌, ◌+◌, ◌*◌, ◌↔◌, [], false, true, None, IsOk, IfOk, IfErr, OnOk};
-ghost use Rattle.std.specs.Prelude.{OnErr, length, replicate};
+ghost use Rattle.std.specs.Prelude.{◌≡◌, ◌<◌, ◌≤◌, ◌+◌, ◌*◌, ◌^◌, ◌↔◌, [], false, true, None, IsOk, IfOk, IfErr, IfSome};
+ghost use Rattle.std.specs.Prelude.{OnErr, OnOk, length, replicate};
 ghost use Rattle.std.specs.FinMap.{empty};
 ghost use Rattle.rv_model.specs.memory.Memory.{can_access, bytes_at, put_bytes, with_pages, page_count};
 ghost use Rattle.rv_model.specs.memory.Memory.{any_page_mapped, map_refusal};
@@ -9,16 +9,17 @@ ghost use Rattle.rv_model.specs.machine.Setup.{user_count};
 ghost use Rattle.user_mem.specs.Users.{no_memories, memory_of_user, with_memory};
 ghost use Rattle.user_mem.specs.Pool.{entries_of};
 
-use crate::access::{is_allowed, read_pages, try_read};
+use crate::access::{is_allowed, lend, read_pages, try_read};
 use crate::frames::FRAME_SIZE;
 use crate::free::{FreeFrames, all_free};
 use crate::table::refusal;
 use crate::translations::Translations;
 use crate::users::{
-    AllTranslations, PageRange, Tables, Target, drop_pages, map_user, translate_user,
+    AllTranslations, PageRange, Tables, Target, drop_pages, edit_user, map_user, translate_user,
     try_write_user, user_entries, write_user,
 };
 use arrayvec::ArrayVec;
+use lent_bytes::Edit;
 use rv_model::{Access, FRAME_COUNT, Fault, MapRefusal, Permissions, USER_COUNT, User};
 use std::alloc::{AllocError, Allocator, Global};
 use std::marker::Model;
@@ -188,6 +189,21 @@ impl<A: Allocator> Pool<A> {
         )
     }
 
+    /// Lend bytes of a user from `addr` on, each of which the access is allowed to: those of the page that starts there, if
+    /// a single lookup in the user's translations finds it, and otherwise none.
+    #[inline(always)]
+    pub fn lend(&self, user: User, addr: u64, access: Access) -> &[u8]
+        ensures users { length self.now ≡ user_count }
+        ensures end { addr + length result.now ≤ 2 ^ 64 }
+        ensures allowed { can_access access (memory_of_user self.now user) addr (length result.now) ≡ true }
+        ensures value { result.now ≡ bytes_at (memory_of_user self.now user) addr (length result.now) }
+    {
+        let user = user.index();
+        let entries = user_entries(&self.tables, user);
+        let frames = self.frames.as_slice();
+        lend(entries, &self.translations[user], frames, access, addr)
+    }
+
     /// Read a user's bytes from `addr` on until the buffer is full. If `check` would fail, return its fault, and leave
     /// the buffer unchanged.
     #[inline(always)]
@@ -232,6 +248,26 @@ impl<A: Allocator> Pool<A> {
             self.frames.as_mut_slice(),
             Target { access, addr },
             bytes,
+        )
+    }
+
+    /// Pass bytes of a user from `addr` on, each of which may be stored, to an edit: those of the page that starts there,
+    /// if a single lookup in the user's translations finds it. Return the edit's result; `None` changes nothing.
+    #[inline(always)]
+    pub fn edit<E: Edit>(&mut self, user: User, addr: u64, edit: &E) -> Option<usize>
+        ensures users { length self.old ≡ user_count }
+        ensures changed { IfSome result (λ n. E.changes edit.now
+            (memory_of_user self.old user) n (memory_of_user self.new user)) }
+        ensures others { self.new ≡ with_memory self.old user (memory_of_user self.new user) }
+        ensures unchanged { result ≡ None → self.new ≡ self.old }
+    {
+        edit_user(
+            &self.tables,
+            &self.translations,
+            user.index(),
+            self.frames.as_mut_slice(),
+            addr,
+            edit,
         )
     }
 

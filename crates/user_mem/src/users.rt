@@ -1,6 +1,6 @@
 //! The page tables of all users over the pool's frames. Here users are indices from 0.
 ghost use Rattle.std.specs.Prelude.{◌≡◌, ◌≢◌, List, ℕ, ◌<◌, ◌≤◌, ◌+◌, ◌↔◌, [], None, false, true, length};
-ghost use Rattle.std.specs.Prelude.{IsOk, IfErr, OnOk, OnErr, slice_index_or, slice_set};
+ghost use Rattle.std.specs.Prelude.{IsOk, IfErr, IfSome, OnOk, OnErr, slice_index_or, slice_set};
 ghost use Rattle.rv_model.specs.memory.Memory.{can_access, put_bytes, with_pages};
 ghost use Rattle.rv_model.specs.memory.Sizes.{page_quota, page_limit};
 ghost use Rattle.rv_model.specs.machine.Setup.{user_count};
@@ -14,6 +14,7 @@ use crate::entry::Entry;
 use crate::free::{FreeFrames, give_back, take_pages};
 use crate::table::Table;
 use crate::translations::Translations;
+use lent_bytes::Edit;
 use rv_model::{Access, Fault, Permissions, USER_COUNT};
 
 /// The page tables of all users, user 1 first.
@@ -131,6 +132,34 @@ pub(crate) fn try_write_user(
         target.addr,
         bytes,
     )
+}
+
+/// Pass the bytes of a page of the user at an index to an edit, if a single lookup finds that they may be stored. Return
+/// the edit's result; `None` changes nothing.
+#[inline(always)]
+pub(crate) fn edit_user<E: Edit>(
+    tables: &Tables,
+    all: &AllTranslations,
+    user: usize,
+    frames: &mut [u8],
+    addr: u64,
+    edit: &E,
+) -> Option<usize>
+    requires user { user < user_count }
+    requires pool { (free : List ℕ) × IsPool (entries_of tables.now) free frames.old }
+    requires translated { AllTranslate (entries_of tables.now) all.now }
+    ensures changed { IfSome result (λ n. E.changes edit.now
+        (memory_of frames.old (table_at (entries_of tables.now) user)) n
+        (memory_of frames.new (table_at (entries_of tables.now) user))) }
+    ensures pool { (free : List ℕ) → IsPool (entries_of tables.now) free frames.old
+        → IsPool (entries_of tables.now) free frames.new }
+    ensures value { memories_of frames.new (entries_of tables.now)
+        ≡ slice_set (memories_of frames.old (entries_of tables.now)) user
+        (memory_of frames.new (table_at (entries_of tables.now) user)) }
+    ensures unchanged { result ≡ None → frames.new ≡ frames.old }
+    ensures size { length frames.new ≡ length frames.old }
+{
+    access::edit_page(user_entries(tables, user), &all[user], frames, addr, edit)
 }
 
 /// Write bytes of the user at an index, page by page.

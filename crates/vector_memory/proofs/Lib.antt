@@ -1,6 +1,7 @@
 pub mod BlendMoves
 pub mod BlockMoves
 pub mod FieldSteps
+pub mod LentLaws
 pub mod MovedRuns
 pub mod Offsets
 pub mod OneField

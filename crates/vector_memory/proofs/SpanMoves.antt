@@ -125,11 +125,11 @@ put_part m a k bs xs room = same_memory (put_bytes m a new) (put_bytes old (a + 
 
 -- ---- permissions
 
-part_allowed : (access : Access) (m : Memory) (a n k count x : ℕ) → can_access access m a n ≡ true → k + count ≤ n → x ≡ a + k → can_access access m x count ≡ true
+pub part_allowed : (access : Access) (m : Memory) (a n k count x : ℕ) → can_access access m a n ≡ true → k + count ≤ n → x ≡ a + k → can_access access m x count ≡ true
 part_allowed access m a n k count x all h at =
     can_access_from access m x count (λ j l. can_access-at access m a n (k + j) (x + j) all (omega (arith, h, l)) (omega (arith, at)))
 
-no_field : (access : Access) (m : Memory) (i x size : ℕ) → are_allowed access m (moved_segment i x size 0) ≡ true
+pub no_field : (access : Access) (m : Memory) (i x size : ℕ) → are_allowed access m (moved_segment i x size 0) ≡ true
 unfolding are_allowed
 no_field access m i x size = refl
 

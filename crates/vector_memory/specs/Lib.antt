@@ -2,6 +2,7 @@ pub mod AccessKinds
 pub mod Blocks
 pub mod Distances
 pub mod FieldOrder
+pub mod Lent
 pub mod MovedElements
 pub mod Moves
 pub mod Offsets

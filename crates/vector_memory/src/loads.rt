@@ -7,6 +7,7 @@ ghost use Rattle.vector_memory.specs.SegmentRoom.{StopsBefore, segments_access, 
 use crate::addresses::Addresses;
 use crate::ends::end_without_fault;
 use crate::field_bytes::load_bytes;
+use crate::lent::{TRIES, tries_after};
 use crate::moves::Moves;
 use crate::runs::Extent;
 use crate::user_bytes::UserBytes;
@@ -16,7 +17,7 @@ impl<A: Addresses> Moves<'_, A> {
     /// Load the segment of one index, if it is active and each of its bytes may be loaded. With `fill`, a
     /// masked-off segment becomes all ones.
     #[inline(always)]
-    fn load_index<M: UserBytes>(
+    pub(crate) fn load_index<M: UserBytes>(
         &self,
         memory: &M,
         fill: bool,
@@ -41,7 +42,7 @@ impl<A: Addresses> Moves<'_, A> {
         Ok(())
     }
 
-    /// Load the indices one by one, up to the first whose segment may not be loaded.
+    /// Load the indices in order, up to the first whose segment may not be loaded.
     #[inline(never)]
     fn load_each<M: UserBytes>(&self, memory: &M, extent: Extent, file: &mut VFile) -> MemEnd
         ensures loaded { IsLoaded extent.limit extent.fill_masked_off
@@ -51,12 +52,20 @@ impl<A: Addresses> Moves<'_, A> {
     {
         let fill = extent.fill_masked_off;
         let stop = self.stop(extent.limit);
-        for index in self.body.start()..stop {
-            if let Err(fault) = self.load_index(memory, fill, index, file) {
-                return MemEnd::Fault {
-                    index,
-                    addr: fault.addr,
-                };
+        let mut index = self.body.start();
+        let mut tries = TRIES;
+        while index < stop {
+            match self.load_some(memory, fill, 0 < tries, index, stop, file) {
+                Ok(next) => {
+                    tries = tries_after(tries, index, next);
+                    index = next;
+                }
+                Err(fault) => {
+                    return MemEnd::Fault {
+                        index,
+                        addr: fault.addr,
+                    };
+                }
             }
         }
         end_without_fault(stop, self.body.end())

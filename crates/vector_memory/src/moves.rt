@@ -33,6 +33,24 @@ impl<'a, A: Addresses> Moves<'a, A> {
         }
     }
 
+    /// Return a copy with the number and the size of fields that the caller passes, as constants where it can.
+    #[inline(always)]
+    pub(crate) fn counted(&self, fields: usize, size: usize) -> Moves<'a, A>
+        requires fields { fields ≡ self.now.segments.fields }
+        requires size { size ≡ self.now.segments.size }
+        ensures { result ≡ self.now }
+    {
+        Moves {
+            segments: Segments {
+                fields,
+                size,
+                ..self.segments
+            },
+            addresses: self.addresses,
+            body: self.body.copied(),
+        }
+    }
+
     /// Return the index after the last of at most `limit` indices.
     #[inline(always)]
     pub(crate) fn stop(&self, limit: usize) -> usize

@@ -210,7 +210,7 @@ impl<'a> Span<'a> {
 
 /// Copy the bytes of an element.
 #[inline(always)]
-fn copy_lane<L: Lane>(source: &[u8], destination: &mut [u8])
+pub(crate) fn copy_lane<L: Lane>(source: &[u8], destination: &mut [u8])
     requires source { length source.now ≡ width_bytes L.width }
     requires destination { length destination.old ≡ width_bytes L.width }
     ensures { destination.new ≡ source.now }

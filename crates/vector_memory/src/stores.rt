@@ -7,6 +7,7 @@ ghost use Rattle.vector_memory.specs.SegmentRoom.{StopsBefore, segments_access, 
 use crate::addresses::Addresses;
 use crate::ends::end_without_fault;
 use crate::field_bytes::store_bytes;
+use crate::lent::{TRIES, tries_after};
 use crate::moves::Moves;
 use crate::user_bytes::UserBytes;
 use rv_model::{Fault, MemEnd, VFile};
@@ -14,7 +15,7 @@ use rv_model::{Fault, MemEnd, VFile};
 impl<A: Addresses> Moves<'_, A> {
     /// Store the segment of one index, if it is active and each of its bytes may be stored.
     #[inline(always)]
-    fn store_index<M: UserBytes>(
+    pub(crate) fn store_index<M: UserBytes>(
         &self,
         file: &VFile,
         index: usize,
@@ -38,8 +39,7 @@ impl<A: Addresses> Moves<'_, A> {
         Ok(())
     }
 
-    /// Store the indices one by one, at most `limit` of them, up to the first whose segment may not be
-    /// stored.
+    /// Store the indices in order, at most `limit` of them, up to the first whose segment may not be stored.
     #[inline(never)]
     fn store_each<M: UserBytes>(&self, file: &VFile, limit: usize, memory: &mut M) -> MemEnd
         ensures stored { IsStored limit
@@ -49,12 +49,20 @@ impl<A: Addresses> Moves<'_, A> {
         ensures others { memory.new ≡ M.with_memory memory.old (M.memory memory.new) }
     {
         let stop = self.stop(limit);
-        for index in self.body.start()..stop {
-            if let Err(fault) = self.store_index(file, index, memory) {
-                return MemEnd::Fault {
-                    index,
-                    addr: fault.addr,
-                };
+        let mut index = self.body.start();
+        let mut tries = TRIES;
+        while index < stop {
+            match self.store_some(file, 0 < tries, index, stop, memory) {
+                Ok(next) => {
+                    tries = tries_after(tries, index, next);
+                    index = next;
+                }
+                Err(fault) => {
+                    return MemEnd::Fault {
+                        index,
+                        addr: fault.addr,
+                    };
+                }
             }
         }
         end_without_fault(stop, self.body.end())

@@ -1,7 +1,9 @@
 //! The bytes of one user.
-ghost use Rattle.std.specs.Prelude.{◌≡◌, ◌↔◌, false, true, length, IsOk, IfErr, OnOk, OnErr};
+ghost use Rattle.std.specs.Prelude.{◌≡◌, ◌+◌, ◌^◌, ◌≤◌, ◌↔◌, false, true, length, None, IsOk, IfErr, IfSome, OnOk};
+ghost use Rattle.std.specs.Prelude.{OnErr};
 ghost use Rattle.rv_model.specs.memory.Memory.{Memory, can_access, bytes_at, put_bytes};
 
+use lent_bytes::Edit;
 use rv_model::{Access, Fault};
 
 /// Memory of one user, by byte address. An access that isn't allowed for each of its bytes is refused with
@@ -24,6 +26,19 @@ pub trait UserBytes {
         ensures fault { IfErr result (λ fault. fault.addr ≡ addr) }
         ensures value { OnOk result (bytes.new ≡ bytes_at (memory self.now) addr (length bytes.old)) }
         ensures unchanged { OnErr result (bytes.new ≡ bytes.old) };
+
+    /// Lend bytes from an address on, each of which may be accessed: as many as a fast path finds, possibly none.
+    fn lend(&self, addr: u64, access: Access) -> &[u8]
+        ensures end { addr + length result.now ≤ 2 ^ 64 }
+        ensures allowed { can_access access (memory self.now) addr (length result.now) ≡ true }
+        ensures value { result.now ≡ bytes_at (memory self.now) addr (length result.now) };
+
+    /// Lend bytes from an address on, each of which may be stored, to an edit: as many as a fast path finds. Return its
+    /// result, or `None` if no bytes are found; an implementation may always return `None`.
+    fn edit<E: Edit>(&mut self, addr: u64, edit: &E) -> Option<usize>
+        ensures changed { IfSome result (λ n. E.changes edit.now (memory self.old) n (memory self.new)) }
+        ensures others { self.new ≡ with_memory self.old (memory self.new) }
+        ensures unchanged { result ≡ None → self.new ≡ self.old };
 
     /// Fill the buffer with the bytes from an address on, if a fast path finds them. Return whether it did;
     /// an implementation may always return `false`.
