@@ -1,9 +1,8 @@
 //! A faster path for loads at a stride or at offsets ("V" Vector Extension 1.0, sections 7.5, 7.6 and 7.8). Memory
 //! lends the bytes around a segment, mostly those of its page, and the segments in these bytes are copied without
 //! asking for each. The other segments are loaded as in `loads`.
-ghost use Rattle.std.specs.Prelude.{◌≡◌, ◌+◌, ◌^◌, ◌<◌, ◌≤◌, IfErr, IfOk, OnErr, false, length, true};
+ghost use Rattle.std.specs.Prelude.{◌≡◌, ◌+◌, ◌^◌, ◌<◌, ◌≤◌, false, length, max, true};
 ghost use Rattle.lent_bytes.specs.Lent.{IsLent};
-ghost use Rattle.rv_model.specs.accesses.Transfers.{are_allowed, bad_address};
 ghost use Rattle.rv_model.specs.accesses.VectorAccess.{plan};
 ghost use Rattle.rv_model.specs.declared.memory.Access.TheVariants.{Load};
 ghost use Rattle.rv_model.specs.memory.Memory.{Memory};
@@ -12,10 +11,11 @@ ghost use Rattle.vector_memory.specs.Lent.{ArePartLoaded, IsIndexLoaded};
 ghost use Rattle.vector_memory.specs.SegmentRoom.{place_in, segments_access};
 
 use crate::addresses::Addresses;
+use crate::lent::{TRIES, tries_after};
 use crate::moves::Moves;
 use crate::user_bytes::UserBytes;
 use lane_arith::Lane;
-use rv_model::{Access, Fault, PAGE_SIZE, VFile};
+use rv_model::{Access, PAGE_SIZE, VFile};
 
 impl<A: Addresses> Moves<'_, A> {
     /// Load the segment of one index from lent bytes, if it is active; with `fill`, a masked-off segment becomes all
@@ -192,13 +192,12 @@ impl<A: Addresses> Moves<'_, A> {
     }
 
     /// Load the segments of the indices from `from` on that are in the bytes which memory lends around the first, up
-    /// to the first active one that isn't. Return its index, or `stop`. Unless `near`, memory isn't asked.
+    /// to the first active one that isn't. Return its index, or `stop`.
     #[inline(always)]
     fn load_near<M: UserBytes>(
         &self,
         memory: &M,
         fill: bool,
-        near: bool,
         from: usize,
         stop: usize,
         file: &mut VFile,
@@ -211,47 +210,65 @@ impl<A: Addresses> Moves<'_, A> {
             (plan (segments_access self.now.segments self.now.body (A.address self.now.addresses)) fill)
             from result file.old file.new }
     {
-        if !near {
-            return from;
-        }
         let address = self.addresses.address(from);
         let first = address - address % PAGE_SIZE;
         let bytes = memory.lend(first, Access::Load);
         self.load_lent_sized(bytes, first, fill, from, stop, file)
     }
 
-    /// Load the segment of one index; if `near`, also those after it that memory lends with it. Return the index after
-    /// them.
+    /// Load the segment of one index and those after it that memory lends with it. Return the index after them; that
+    /// is `index` if its segment may not be loaded.
     #[inline(always)]
-    pub(crate) fn load_some<M: UserBytes>(
+    fn load_some<M: UserBytes>(
         &self,
         memory: &M,
         fill: bool,
-        near: bool,
         index: usize,
         stop: usize,
         file: &mut VFile,
-    ) -> Result<usize, Fault>
+    ) -> usize
         requires order { index < stop }
         requires stop { stop ≤ self.now.body.end }
-        ensures more { IfOk result (λ next. index < next) }
-        ensures most { IfOk result (λ next. next ≤ stop) }
-        ensures loaded { IfOk result (λ next. ArePartLoaded (M.memory memory.now) (place_in self.now.segments)
+        ensures order { index ≤ result }
+        ensures most { result ≤ stop }
+        ensures loaded { ArePartLoaded (M.memory memory.now) (place_in self.now.segments)
             (plan (segments_access self.now.segments self.now.body (A.address self.now.addresses)) fill)
-            index next file.old file.new) }
-        ensures bad { OnErr result (are_allowed Load (M.memory memory.now)
-            (plan (segments_access self.now.segments self.now.body (A.address self.now.addresses)) fill index) ≡ false) }
-        ensures fault { IfErr result (λ fault. fault.addr ≡ bad_address Load (M.memory memory.now)
-            (plan (segments_access self.now.segments self.now.body (A.address self.now.addresses)) fill index)) }
-        ensures unchanged { OnErr result (file.new ≡ file.old) }
+            index result file.old file.new }
     {
-        let next = self.load_near(memory, fill, near, index, stop, file);
-        if index < next {
-            return Ok(next);
+        let next = self.load_near(memory, fill, index, stop, file);
+        if next == index && self.load_index(memory, fill, index, file).is_ok() {
+            return index + 1;
         }
-        if let Err(fault) = self.load_index(memory, fill, index, file) {
-            return Err(fault);
+        next
+    }
+
+    /// Load the segments of the first indices in order, as long as memory lends bytes that contain more than one. Return
+    /// the index of the first segment that isn't loaded, or `stop`.
+    #[inline(always)]
+    pub(crate) fn load_by_page<M: UserBytes>(
+        &self,
+        memory: &M,
+        fill: bool,
+        stop: usize,
+        file: &mut VFile,
+    ) -> usize
+        requires stop { stop ≤ self.now.body.end }
+        ensures order { self.now.body.start ≤ result }
+        ensures most { result ≤ max self.now.body.start stop }
+        ensures loaded { ArePartLoaded (M.memory memory.now) (place_in self.now.segments)
+            (plan (segments_access self.now.segments self.now.body (A.address self.now.addresses)) fill)
+            self.now.body.start result file.old file.new }
+    {
+        let mut index = self.body.start();
+        let mut tries = TRIES;
+        while index < stop && 0 < tries {
+            let next = self.load_some(memory, fill, index, stop, file);
+            if next == index {
+                return index;
+            }
+            tries = tries_after(tries, index, next);
+            index = next;
         }
-        Ok(index + 1)
+        index
     }
 }

@@ -1,22 +1,23 @@
 //! A faster path for stores at a stride or at offsets ("V" Vector Extension 1.0, sections 7.5, 7.6 and 7.8). Memory
 //! passes the bytes around a segment, mostly those of its page, to an edit, which copies to them the segments that they
 //! contain, in order. The other segments are stored as in `stores`.
-ghost use Rattle.std.specs.Prelude.{◌≡◌, ◌+◌, ◌^◌, ◌<◌, ◌≤◌, IfErr, IfOk, OnErr, false, length, true};
+ghost use Rattle.std.specs.Prelude.{◌≡◌, ◌+◌, ◌^◌, ◌<◌, ◌≤◌, false, length, max, true};
 ghost use Rattle.lent_bytes.specs.Lent.{IsLent};
-ghost use Rattle.rv_model.specs.accesses.Transfers.{are_allowed, bad_address, memory_stored};
+ghost use Rattle.rv_model.specs.accesses.Transfers.{are_allowed, memory_stored};
 ghost use Rattle.rv_model.specs.accesses.VectorAccess.{plan};
 ghost use Rattle.rv_model.specs.declared.memory.Access.TheVariants.{Store};
 ghost use Rattle.rv_model.specs.memory.Memory.{Memory, can_access, put_bytes};
 ghost use Rattle.rv_model.specs.vector.Groups.{width_bytes};
-ghost use Rattle.vector_memory.specs.Lent.{ArePartStored, AreStoredUpTo};
+ghost use Rattle.vector_memory.specs.Lent.{AreStoredUpTo};
 ghost use Rattle.vector_memory.specs.SegmentRoom.{place_in, segments_access};
 
 use crate::addresses::Addresses;
+use crate::lent::{TRIES, tries_after};
 use crate::moves::Moves;
 use crate::user_bytes::UserBytes;
 use lane_arith::Lane;
 use lent_bytes::Edit;
-use rv_model::{Fault, PAGE_SIZE, VFile};
+use rv_model::{PAGE_SIZE, VFile};
 
 impl<A: Addresses> Moves<'_, A> {
     /// Store the segment of one index to lent bytes, if it is active. Return `false`, and change nothing, if it is
@@ -203,12 +204,11 @@ impl<A: Addresses> Edit for PartStore<'_, A> {
 
 impl<A: Addresses> Moves<'_, A> {
     /// Store the segments of the indices from `from` on that are in the bytes which memory lends around the first, up
-    /// to the first active one that isn't. Return its index, or `stop`. Unless `near`, memory isn't asked.
+    /// to the first active one that isn't. Return its index, or `stop`.
     #[inline(always)]
     fn store_near<M: UserBytes>(
         &self,
         file: &VFile,
-        near: bool,
         from: usize,
         stop: usize,
         memory: &mut M,
@@ -220,9 +220,6 @@ impl<A: Addresses> Moves<'_, A> {
             from stop (M.memory memory.old) result (M.memory memory.new) }
         ensures others { memory.new ≡ M.with_memory memory.old (M.memory memory.new) }
     {
-        if !near {
-            return from;
-        }
         let address = self.addresses.address(from);
         let part = PartStore {
             moves: self,
@@ -236,39 +233,55 @@ impl<A: Addresses> Moves<'_, A> {
         }
     }
 
-    /// Store the segment of one index; if `near`, also those after it that memory lends with it. Return the index
-    /// after them.
+    /// Store the segment of one index and those after it that memory lends with it. Return the index after them; that
+    /// is `index` if its segment may not be stored.
     #[inline(always)]
-    pub(crate) fn store_some<M: UserBytes>(
+    fn store_some<M: UserBytes>(
         &self,
         file: &VFile,
-        near: bool,
         index: usize,
         stop: usize,
         memory: &mut M,
-    ) -> Result<usize, Fault>
+    ) -> usize
         requires order { index < stop }
         requires stop { stop ≤ self.now.body.end }
-        ensures more { IfOk result (λ next. index < next) }
-        ensures most { IfOk result (λ next. next ≤ stop) }
-        ensures stored { IfOk result (λ next. ArePartStored (place_in self.now.segments) file.now
+        ensures stored { AreStoredUpTo (place_in self.now.segments) file.now
             (plan (segments_access self.now.segments self.now.body (A.address self.now.addresses)) false)
-            index next (M.memory memory.old) (M.memory memory.new)) }
-        ensures bad { OnErr result (are_allowed Store (M.memory memory.old)
-            (plan (segments_access self.now.segments self.now.body (A.address self.now.addresses)) false index)
-            ≡ false) }
-        ensures fault { IfErr result (λ fault. fault.addr ≡ bad_address Store (M.memory memory.old)
-            (plan (segments_access self.now.segments self.now.body (A.address self.now.addresses)) false index)) }
-        ensures unchanged { OnErr result (M.memory memory.new ≡ M.memory memory.old) }
+            index stop (M.memory memory.old) result (M.memory memory.new) }
         ensures others { memory.new ≡ M.with_memory memory.old (M.memory memory.new) }
     {
-        let next = self.store_near(file, near, index, stop, memory);
-        if index < next {
-            return Ok(next);
+        let next = self.store_near(file, index, stop, memory);
+        if next == index && self.store_index(file, index, memory).is_ok() {
+            return index + 1;
         }
-        if let Err(fault) = self.store_index(file, index, memory) {
-            return Err(fault);
+        next
+    }
+
+    /// Store the segments of the first indices in order, as long as memory lends bytes that contain more than one. Return
+    /// the index of the first segment that isn't stored, or `stop`.
+    #[inline(always)]
+    pub(crate) fn store_by_page<M: UserBytes>(
+        &self,
+        file: &VFile,
+        stop: usize,
+        memory: &mut M,
+    ) -> usize
+        requires stop { stop ≤ self.now.body.end }
+        ensures stored { AreStoredUpTo (place_in self.now.segments) file.now
+            (plan (segments_access self.now.segments self.now.body (A.address self.now.addresses)) false)
+            self.now.body.start (max self.now.body.start stop) (M.memory memory.old) result (M.memory memory.new) }
+        ensures others { memory.new ≡ M.with_memory memory.old (M.memory memory.new) }
+    {
+        let mut index = self.body.start();
+        let mut tries = TRIES;
+        while index < stop && 0 < tries {
+            let next = self.store_some(file, index, stop, memory);
+            if next == index {
+                return index;
+            }
+            tries = tries_after(tries, index, next);
+            index = next;
         }
-        Ok(index + 1)
+        index
     }
 }

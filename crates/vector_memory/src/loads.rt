@@ -7,7 +7,6 @@ ghost use Rattle.vector_memory.specs.SegmentRoom.{StopsBefore, segments_access, 
 use crate::addresses::Addresses;
 use crate::ends::end_without_fault;
 use crate::field_bytes::load_bytes;
-use crate::lent::{TRIES, tries_after};
 use crate::moves::Moves;
 use crate::runs::Extent;
 use crate::user_bytes::UserBytes;
@@ -52,20 +51,12 @@ impl<A: Addresses> Moves<'_, A> {
     {
         let fill = extent.fill_masked_off;
         let stop = self.stop(extent.limit);
-        let mut index = self.body.start();
-        let mut tries = TRIES;
-        while index < stop {
-            match self.load_some(memory, fill, 0 < tries, index, stop, file) {
-                Ok(next) => {
-                    tries = tries_after(tries, index, next);
-                    index = next;
-                }
-                Err(fault) => {
-                    return MemEnd::Fault {
-                        index,
-                        addr: fault.addr,
-                    };
-                }
+        for index in self.load_by_page(memory, fill, stop, file)..stop {
+            if let Err(fault) = self.load_index(memory, fill, index, file) {
+                return MemEnd::Fault {
+                    index,
+                    addr: fault.addr,
+                };
             }
         }
         end_without_fault(stop, self.body.end())

@@ -7,7 +7,6 @@ ghost use Rattle.vector_memory.specs.SegmentRoom.{StopsBefore, segments_access, 
 use crate::addresses::Addresses;
 use crate::ends::end_without_fault;
 use crate::field_bytes::store_bytes;
-use crate::lent::{TRIES, tries_after};
 use crate::moves::Moves;
 use crate::user_bytes::UserBytes;
 use rv_model::{Fault, MemEnd, VFile};
@@ -49,20 +48,12 @@ impl<A: Addresses> Moves<'_, A> {
         ensures others { memory.new ≡ M.with_memory memory.old (M.memory memory.new) }
     {
         let stop = self.stop(limit);
-        let mut index = self.body.start();
-        let mut tries = TRIES;
-        while index < stop {
-            match self.store_some(file, 0 < tries, index, stop, memory) {
-                Ok(next) => {
-                    tries = tries_after(tries, index, next);
-                    index = next;
-                }
-                Err(fault) => {
-                    return MemEnd::Fault {
-                        index,
-                        addr: fault.addr,
-                    };
-                }
+        for index in self.store_by_page(file, stop, memory)..stop {
+            if let Err(fault) = self.store_index(file, index, memory) {
+                return MemEnd::Fault {
+                    index,
+                    addr: fault.addr,
+                };
             }
         }
         end_without_fault(stop, self.body.end())

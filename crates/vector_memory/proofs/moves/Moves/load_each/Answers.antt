@@ -1,36 +1,26 @@
-use Rattle.std.proofs.Common.{◌≡◌, ◌+◌, ◌-◌, cond, sym, ap, ◌∙◌, arith}
+use Rattle.std.proofs.Common.{◌≡◌, ◌+◌, ◌-◌, false, cond, refl, sym, ap, ◌∙◌, arith}
+use Rattle.std.proofs.lemmas.Bool.{false_from_ne_true}
 use Rattle.std.specs.Prelude.{nat_lt}
 use Rattle.rv_model.specs.declared.memory.Access.TheVariants.{Load}
 use Rattle.rv_model.specs.declared.step.memory_end.MemEnd.TheVariants.{Cut, Done, Fault}
-use Rattle.rv_model.specs.accesses.Transfers.{registers_loaded, transfers}
+use Rattle.rv_model.specs.accesses.Transfers.{are_allowed, registers_loaded, transfers}
 use Rattle.rv_model.specs.accesses.VectorAccess.{plan}
 use Rattle.rv_model.proofs.access_lemmas.Contiguous.{stops_all}
 use Rattle.rv_model.proofs.access_lemmas.Stops.{stops_bad}
 use Rattle.vector_memory.specs.SegmentRoom.{segments_access, place_in}
-use Rattle.vector_memory.proofs.LentLaws.{part_none, part_then}
+use Rattle.vector_memory.proofs.LentLaws.{part_more}
 use Rattle.vector_memory.proofs.moves.Moves.load_each.Goals as goal
-
-pub loop-index-init : goal.loop-index-init
-loop-index-init g c =
-    let m = g.M.UserBytes.memory c.args.memory.now in
-    let each = plan (segments_access c.args.self.now.segments c.args.self.now.body (g.A.Addresses.address c.args.self.now.addresses)) c.args.extent.fill_masked_off in
-    rw c.start-index.ensures
-    (record {
-      loaded = part_none m (place_in c.args.self.now.segments) each c.args.self.now.body.start c.args.file.now;
-      low = omega arith;
-      most = omega arith;
-    })
 
 pub loop-index-preserved : goal.loop-index-preserved
 loop-index-preserved g c =
-    let m = g.M.UserBytes.memory c.args.memory.now in
-    let each = plan (segments_access c.args.self.now.segments c.args.self.now.body (g.A.Addresses.address c.args.self.now.addresses)) c.args.extent.fill_masked_off in
+    let b = c.args.self.now in
+    let each = plan (segments_access b.segments b.body (g.A.Addresses.address b.addresses)) c.args.extent.fill_masked_off in
     let inv = c.loop-index.invariant in
     record {
-      loaded = part_then m (place_in c.args.self.now.segments) each c.args.self.now.body.start c.loop-index.index c.in-Ok.next inv.low (omega (arith, c.in-Ok.ensures.more))
-          c.args.file.now c.loop-index.file c.load_some.new.file inv.loaded c.in-Ok.ensures.loaded;
-      low = omega (arith, inv.low, c.in-Ok.ensures.more);
-      most = omega (arith, inv.low, c.in-Ok.ensures.more, c.in-Ok.ensures.most);
+      loaded = part_more (g.M.UserBytes.memory c.args.memory.now) (place_in b.segments) each b.body.start c.loop-index.index c.args.file.now c.loop-index.file c.load_index.new.file
+          inv.low inv.loaded (record { allowed = c.in_default.ensures.ok.0 refl; value = c.in_default.ensures.value });
+      low = omega (arith, inv.low);
+      most = omega (arith, c.loop-index-test.true);
     }
 
 pub returns-in-Err-clause-loaded : goal.returns-in-Err-clause-loaded
@@ -41,7 +31,8 @@ returns-in-Err-clause-loaded g c =
     let i = c.loop-index.index in
     let inv = c.loop-index.invariant in
     let stop = c.stop-stop.ensures in
-    let stopped = stops_bad Load m each start (start + c.args.extent.limit) c.args.self.now.body.end i inv.low (omega (arith, c.loop-index-test.true, stop)) (omega (arith, c.loop-index-test.true, stop)) inv.loaded.allowed c.in-Err.ensures.bad in
+    let bad : are_allowed Load m (each i) ≡ false = false_from_ne_true _ (λ t. let is_not = c.in-Err.ensures.ok.1 t in cc) in
+    let stopped = stops_bad Load m each start (start + c.args.extent.limit) c.args.self.now.body.end i inv.low (omega (arith, c.loop-index-test.true, stop)) (omega (arith, c.loop-index-test.true, stop)) inv.loaded.allowed bad in
     record {
       end = ap (λ addr. Fault i addr) c.in-Err.ensures.fault ∙ sym stopped.end;
       value = c.in-Err.ensures.unchanged ∙ inv.loaded.value ∙ ap (registers_loaded m (place_in c.args.self.now.segments) c.args.file.now) (sym stopped.done);

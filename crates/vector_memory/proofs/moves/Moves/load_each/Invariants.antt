@@ -1,4 +1,4 @@
-use Rattle.std.proofs.Common.{◌≤◌, ◌-◌, max}
+use Rattle.std.proofs.Common.{◌≤◌, max}
 use Rattle.rv_model.specs.accesses.VectorAccess.{plan}
 use Rattle.vector_memory.specs.Lent.{ArePartLoaded}
 use Rattle.vector_memory.specs.SegmentRoom.{segments_access, place_in}
@@ -12,6 +12,3 @@ invariant-loop-index g l = record {
   low : l.self.body.start ≤ l.index;
   most : l.index ≤ max l.self.body.start l.stop;
 }
-
-abbrev pub decreases-loop-index : goal.decreases-loop-index
-decreases-loop-index g l = l.stop - l.index

@@ -5,19 +5,6 @@ use Rattle.vector_memory.specs.SegmentRoom.{segments_access, place_in}
 use Rattle.vector_memory.proofs.LentLaws.{stored_part_none}
 use Rattle.vector_memory.proofs.moves.Moves.store_near.Goals as goal
 
-pub returns-then-not-near : goal.returns-then-not-near
-returns-then-not-near g c =
-    let b = c.args.self.now in
-    let each = plan (segments_access c.args.self.now.segments c.args.self.now.body (g.A.Addresses.address c.args.self.now.addresses)) false in
-    record {
-      stored = record {
-        order = omega arith;
-        most = omega arith;
-        stored = stored_part_none (place_in b.segments) c.args.file.now each c.args.from (g.M.UserBytes.memory c.args.memory.now);
-      };
-      others = sym (g.met.M.UserBytes.with_memory_same c.args.memory.now);
-    }
-
 pub returns-in-None-clause-stored : goal.returns-in-None-clause-stored
 returns-in-None-clause-stored g c =
     let b = c.args.self.now in
