@@ -99,20 +99,16 @@ abbrev lent_state : {M V : Type 0} → (M → Memory) → (V → Seat) → StepT
 lent_state memory lent terms scalar bytes vectors =
     hart_state scalar (lent vectors).state (memory bytes) terms.policy
 
--- The instruction that a word encodes takes these registers, memory and adapter to those with a prime. Its function returned `ticks`, and
--- left this `Ending`.
-abbrev pub Executes : {M V : Type 0} → (M → Memory) → (V → Seat) → StepTerms → ℕ
-    → Scalar → M → V → Scalar → M → V → ℕ → Ending → Type 0
-Executes memory lent terms word scalar bytes vectors scalar' bytes' vectors' ticks ending =
-    Leads (executed terms.limit (scan table word) word) (lent_state memory lent terms scalar bytes vectors)
-    (lent_state memory lent terms scalar' bytes' vectors') (end_by ticks ending) (ticks_by ticks ending)
-
--- the adapter and its seat after this instruction, which borrows the seat if it touches the vector unit
-abbrev pub Seats : {M V : Type 0} → (M → Memory) → (V → Type 0) → (V → Seat) → (V → Seat → V) → StepTerms → ℕ
-    → Scalar → M → V → V → Type 0
-Seats memory ready lent back terms word scalar bytes vectors vectors' =
-    Returns ready lent back (touches (scan table word)) (dirties terms.limit (scan table word))
-    (lent_state memory lent terms scalar bytes vectors) vectors vectors'
+-- The instruction that a word encodes takes these registers, bytes and adapter to those with a prime. Its function returned `ticks`, and
+-- left this `Ending`. Of the bytes only their memory changes. The instruction borrows the adapter's seat if it touches the vector unit.
+pub record Executes {M V : Type 0} (memory : M → Memory) (with_memory : M → Memory → M) (ready : V → Type 0) (lent : V → Seat)
+    (back : V → Seat → V) (terms : StepTerms) (word : ℕ) (scalar : Scalar) (bytes : M) (vectors : V) (scalar' : Scalar) (bytes' : M)
+    (vectors' : V) (ticks : ℕ) (ending : Ending) : Type 0 where
+  pub model : Leads (executed terms.limit (scan table word) word) (lent_state memory lent terms scalar bytes vectors)
+      (lent_state memory lent terms scalar' bytes' vectors') (end_by ticks ending) (ticks_by ticks ending)
+  pub others : bytes' ≡ with_memory bytes (memory bytes')
+  pub seat : Returns ready lent back (touches (scan table word)) (dirties terms.limit (scan table word))
+      (lent_state memory lent terms scalar bytes vectors) vectors vectors'
 
 -- the loads and stores that one function executes: those of unit stride, or all others
 abbrev pub access_group : Bool → Instr → Bool

@@ -10,7 +10,7 @@ ghost use Rattle.rv_model.specs.instructions.Table.{scan, table};
 ghost use Rattle.rv_model.specs.memory.Memory.{Memory};
 ghost use Rattle.rv_model.specs.step.Hart.{hart_state};
 ghost use Rattle.rv_model.specs.step.Step.{access_cause, after_vector, is_legal_end};
-ghost use Rattle.hart.specs.States.{EndsBy, Executes, Seats, access_group};
+ghost use Rattle.hart.specs.States.{EndsBy, Executes, access_group};
 
 use crate::ending::Ending;
 use crate::faults::{fault, illegal};
@@ -90,10 +90,8 @@ fn execute_other_operation<M: UserBytes, V: Vectors>(
     requires ready { V.ready vectors.old }
     requires opcode { bit_and word 0x7c ≡ 0x54 }
     requires row { scan table word ≡ scan (rows_where is_other_operation_instr) word }
-    ensures model { Executes M.memory V.lent terms word scalar.old memory.old vectors.old
-        scalar.new memory.new vectors.new result ending.new }
-    ensures memory { memory.new ≡ M.with_memory memory.old (M.memory memory.new) }
-    ensures vectors { Seats M.memory V.ready V.lent V.back terms word scalar.old memory.old vectors.old vectors.new }
+    ensures { Executes M.memory M.with_memory V.ready V.lent V.back terms word
+        scalar.old memory.old vectors.old scalar.new memory.new vectors.new result ending.new }
 {
     let decoded = decode_other_operation(word);
     let Some(operation) = &decoded else {
@@ -119,10 +117,8 @@ fn execute_operation<M: UserBytes, V: Vectors>(
 ) -> usize
     requires ready { V.ready vectors.old }
     requires opcode { bit_and word 0x7c ≡ 0x54 }
-    ensures model { Executes M.memory V.lent terms word scalar.old memory.old vectors.old
-        scalar.new memory.new vectors.new result ending.new }
-    ensures memory { memory.new ≡ M.with_memory memory.old (M.memory memory.new) }
-    ensures vectors { Seats M.memory V.ready V.lent V.back terms word scalar.old memory.old vectors.old vectors.new }
+    ensures { Executes M.memory M.with_memory V.ready V.lent V.back terms word
+        scalar.old memory.old vectors.old scalar.new memory.new vectors.new result ending.new }
 {
     let Some(operation) = decode_table_operation(word) else {
         return execute_other_operation(word, scalar, memory, vectors, terms, ending);
@@ -146,10 +142,8 @@ fn execute_access<M: UserBytes, V: Vectors, const UNIT_STRIDE: bool>(
 ) -> usize
     requires ready { V.ready vectors.old }
     requires row { scan table word ≡ scan (rows_where (access_group UNIT_STRIDE)) word }
-    ensures model { Executes M.memory V.lent terms word scalar.old memory.old vectors.old
-        scalar.new memory.new vectors.new result ending.new }
-    ensures memory { memory.new ≡ M.with_memory memory.old (M.memory memory.new) }
-    ensures vectors { Seats M.memory V.ready V.lent V.back terms word scalar.old memory.old vectors.old vectors.new }
+    ensures { Executes M.memory M.with_memory V.ready V.lent V.back terms word
+        scalar.old memory.old vectors.old scalar.new memory.new vectors.new result ending.new }
 {
     let decoded = if UNIT_STRIDE {
         decode_unit_stride(word)
@@ -183,10 +177,8 @@ pub(crate) fn operation<M: UserBytes, V: Vectors>(
 ) -> usize
     requires ready { V.ready vectors.old }
     requires opcode { bit_and word 0x7c ≡ 0x54 }
-    ensures model { Executes M.memory V.lent terms word scalar.old memory.old vectors.old
-        scalar.new memory.new vectors.new result ending.new }
-    ensures memory { memory.new ≡ M.with_memory memory.old (M.memory memory.new) }
-    ensures vectors { Seats M.memory V.ready V.lent V.back terms word scalar.old memory.old vectors.old vectors.new }
+    ensures { Executes M.memory M.with_memory V.ready V.lent V.back terms word
+        scalar.old memory.old vectors.old scalar.new memory.new vectors.new result ending.new }
 {
     if has_funct6_outside_table(word) {
         execute_other_operation(word, scalar, memory, vectors, terms, ending)
@@ -207,10 +199,8 @@ pub(crate) fn access<M: UserBytes, V: Vectors>(
 ) -> usize
     requires ready { V.ready vectors.old }
     requires opcode { (bit_and word 0x7c ≡ 0x04) ⊎ (bit_and word 0x7c ≡ 0x24) }
-    ensures model { Executes M.memory V.lent terms word scalar.old memory.old vectors.old
-        scalar.new memory.new vectors.new result ending.new }
-    ensures memory { memory.new ≡ M.with_memory memory.old (M.memory memory.new) }
-    ensures vectors { Seats M.memory V.ready V.lent V.back terms word scalar.old memory.old vectors.old vectors.new }
+    ensures { Executes M.memory M.with_memory V.ready V.lent V.back terms word
+        scalar.old memory.old vectors.old scalar.new memory.new vectors.new result ending.new }
 {
     if is_unit_stride(word) {
         execute_access::<M, V, true>(word, scalar, memory, vectors, terms, ending)
