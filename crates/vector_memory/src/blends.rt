@@ -53,7 +53,7 @@ impl Span<'_> {
     pub(crate) fn is_blend(&self) -> bool
         ensures { result ≡ true → IsBlend self.now }
     {
-        self.segments.fields == 1 && self.distance == self.segments.size && self.body.start() == 0
+        self.segments.are_contiguous(self.distance) && self.body.start() == 0
     }
 
     /// Return the body from index 0 up to `stop`.

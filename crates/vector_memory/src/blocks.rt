@@ -127,8 +127,7 @@ impl Span<'_> {
         ensures address { IfSome result (λ block. block.address ≡ self.now.address) }
         ensures length { IfSome result (λ block. block.length ≡ self.now.length) }
     {
-        let size = self.segments.size;
-        if !self.body.is_unmasked() || self.segments.fields != 1 || self.distance != size {
+        if !self.body.is_unmasked() || !self.segments.are_contiguous(self.distance) {
             return None;
         }
         Some(Block {

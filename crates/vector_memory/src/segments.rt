@@ -20,6 +20,14 @@ pub(crate) struct Segments {
 }
 
 impl Segments {
+    /// Check whether segments at this distance are contiguous elements of one field.
+    #[inline(always)]
+    pub(crate) fn are_contiguous(&self, distance: usize) -> bool
+        ensures { (result ≡ true) ↔ ((self.now.fields ≡ 1) × (distance ≡ self.now.size)) }
+    {
+        self.fields == 1 && distance == self.size
+    }
+
     /// Return the first byte of an element in the register file.
     #[inline(always)]
     pub(crate) fn place(&self, index: usize, field: usize) -> usize
