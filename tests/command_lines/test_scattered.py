@@ -128,5 +128,5 @@ def test_scattered_elements_are_moved_in_order(case: Case, tmp_path: pathlib.Pat
         shown = replies[f"1 vreg v{number} 8"][0].split()[2:]
         assert bytes.fromhex("".join(shown)) == registers[number]
     for at in range(0, len(memory), 64):
-        shown = replies[f"1 peek {BASE + at:x} 64"][0].split()[3]
-        assert bytes.fromhex(shown) == memory[at : at + 64]
+        peeked = replies[f"1 peek {BASE + at:x} 64"][0].split()[3]
+        assert bytes.fromhex(peeked) == memory[at : at + 64]

@@ -15,7 +15,7 @@ from collections.abc import Mapping, Sequence
 
 from ..classes.core.languages import LANGUAGES, SourceText
 from ..classes.core.progress import Start
-from ..classes.core.sources import DRAFTS, OPEN, SeatSource, kept_source
+from ..classes.core.sources import DRAFTS, OPEN, SeatSource, kept_source, write_source
 from ..classes.core.text_store import TextStore
 
 FREE, UNSAVED = "free", "A1.unsaved"
@@ -152,7 +152,8 @@ class PageSource(SeatSource):
         is_written = super()._write_own()
         if self.exercise:
             return is_written
-        return is_written and self._write(self._name, self.own) and self._store.write_text(f"{self._name}.{OPEN}", "")
+        is_written = is_written and write_source(self._store, self._name, self.own)
+        return is_written and self._store.write_text(f"{self._name}.{OPEN}", "")
 
 
 def _lines(text: str) -> set[str]:

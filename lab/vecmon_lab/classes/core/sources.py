@@ -205,7 +205,9 @@ class SeatSource:
         before = self.versions
         if self.own != self._newest and time.monotonic() - self._since >= TYPING_SECONDS:
             self._add_version(self.own, "typed")
-        for exercise in [each for each, source in self._left.items() if write_source(self._store, self._place(each), source)]:
+        for exercise in [
+            each for each, source in self._left.items() if write_source(self._store, self._place(each), source)
+        ]:
             del self._left[exercise]
         own = (self.exercise, self.opened, self.own)
         if own != self._saved and self._write_own():
