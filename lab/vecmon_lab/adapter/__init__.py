@@ -1,1 +1,1 @@
-"""A debug adapter: editors debug a program on the machine by the Debug Adapter Protocol (docs/EDITORS.md)."""
+"""A debug adapter, with which editors debug a program on the machine by the Debug Adapter Protocol (docs/EDITORS.md)."""

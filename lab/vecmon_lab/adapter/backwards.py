@@ -1,4 +1,4 @@
-"""A program goes back: by instructions or lines, or to a breakpoint."""
+"""Movements of a program back: by instructions or lines, or to a breakpoint."""
 
 from collections.abc import Callable
 from dataclasses import dataclass
@@ -8,14 +8,16 @@ from ..machine.answers import Addresses
 from .halts import START, Halt, Halts, Paused
 from .program import Line
 
-TRACE_LENGTH = 16  # of the addresses that the machine's `trace` shows
+TRACE_LENGTH = 16  # the number of addresses that the machine's `trace` shows
 
 
 @dataclass(frozen=True)
 class _Passed:
-    """Instructions on the way back. count: how many; line: that they are of
+    """The last executed instructions, over which a step back by a line goes at once.
 
-    is_complete: whether the line's start is before them; is_behind_call: whether a call has returned before them
+    count: the number of instructions; line: their source line, or None if it is unknown
+    is_complete: whether the step ends before these instructions, at the start of the line or of the program
+    is_behind_call: whether they begin after a call, at the instruction to which a function has returned
     """
 
     count: int
@@ -25,14 +27,17 @@ class _Passed:
 
 
 class Backwards:
-    """Moves a program back. Each movement returns the halt that ended it, or None if it is complete."""
+    """Moves a program back. Each movement returns the halt that ended it, or None if it was completed."""
 
     def __init__(self, halts: Halts, last: Callable[[], Halt]) -> None:
         """last: returns the halt of the last movement, forwards or back"""
         self._halts, self._last = halts, last
 
     def by_instructions(self, number: int) -> Halt | None:
-        """Go back by instructions; the halt, if there were fewer. Raises Paused and LabError."""
+        """Go back over `number` instructions, or to the start of the program if fewer were executed; only then return a halt.
+
+        Raises Paused if the client ends the movement, and LabError.
+        """
         with self._halts.unwatched():
             is_there = self._halts.timeline.back(number, self._halts.client.wants_stop)
         if is_there is None:
@@ -40,7 +45,10 @@ class Backwards:
         return None if is_there else Halt("entry", text=START)
 
     def by_line(self) -> Halt | None:
-        """Go back to the first instruction of the line that was executed before, over calls."""
+        """Go back to the start of the source line that was executed last, over the calls in it. Raises Paused and LabError.
+
+        If the program counter has no source line, go back over one instruction.
+        """
         if self._halts.line() is None:
             return self.by_instructions(1)
         target: Line | None = None
@@ -55,9 +63,9 @@ class Backwards:
             target = passed.line or self._halts.line()
 
     def _count_back(self, target: Line | None) -> _Passed:
-        """Count those of the last instructions that are of one line: back to the line's start, or to a call.
+        """Return the last executed instructions of one source line, back to the line's start, or to a place where a function returned.
 
-        target: the line, if a part of it was passed
+        target: the line, if some of its instructions were passed before; None otherwise
         """
         trace = self._halts.guest.query("trace", Addresses).addresses
         words = self._halts.program.words({*trace, *(address - 4 for address in (*trace, self._halts.guest.pc))})
@@ -76,7 +84,7 @@ class Backwards:
         return _Passed(len(trace), target, len(trace) < TRACE_LENGTH)
 
     def _back_over_call(self) -> Halt | None:
-        """Go back from behind a call to the call; the halt, if there is another one on the way."""
+        """Go back from the instruction after a call to the call. Return the halt if another one comes first."""
         call, stack = self._halts.guest.pc - 4, self._halts.stack()
         while True:
             if halt := self.to_halt(frozenset({call})):
@@ -85,9 +93,14 @@ class Backwards:
                 return None
 
     def to_halt(self, addresses: frozenset[int]) -> Halt | None:
-        """Go back to a halt, or to one of these addresses; None there, or at the start if there are none of them."""
+        """Go back to a halt, to one of `addresses`, or to the start of the program. Return the halt, or None at one of the addresses.
+
+        Raises Paused if the client ends the movement, and LabError.
+        """
         if self._last().reason == "data breakpoint" and not addresses:
-            if halt := self.by_instructions(1):  # which has done what is watched for
+            if halt := self.by_instructions(
+                1
+            ):  # the last instruction executed is the one that accessed the watched data
                 return halt
         while True:
             breaks = sorted(self._halts.breakpoints.addresses | addresses)

@@ -22,9 +22,9 @@ from .requests import (
 
 
 class BreakpointRequests:
-    """Sets breakpoints, and decides at those that are met whether they stop the program.
+    """Sets the client's breakpoints, and decides whether a breakpoint that the program meets stops it.
 
-    breakpoints: all of them
+    breakpoints: all breakpoints
     """
 
     def __init__(self, debuggee: Debuggee) -> None:
@@ -33,7 +33,7 @@ class BreakpointRequests:
 
     @property
     def handlers(self) -> Handlers:
-        """The requests."""
+        """The handlers of these requests, by the request's name."""
         return {
             "setBreakpoints": (SetBreakpoints, self._set_breakpoints),
             "setFunctionBreakpoints": (SetFunctionBreakpoints, self._set_function_breakpoints),
@@ -45,7 +45,7 @@ class BreakpointRequests:
         }
 
     def holds(self, each: Breakpoint) -> bool:
-        """Whether a breakpoint that was met stops the program. One with a message prints that, and doesn't."""
+        """Return whether a breakpoint that was met stops the program. A breakpoint with a log message prints the message instead."""
         if each.condition and not self.holds_text(each.condition):
             return False
         if not each.log_message:
@@ -71,7 +71,7 @@ class BreakpointRequests:
         return {"breakpoints": [self._row(it) for it in self.breakpoints.replace(f"{path}", each)]}
 
     def _line_from_client(self, each: Any) -> Any:
-        """A breakpoint at a line, counted from 1."""
+        """Return a breakpoint of the client's with its line counted from 1."""
         return each if self._debuggee.client.lines_start_at_1 else dataclasses.replace(each, line=each.line + 1)
 
     def _set_function_breakpoints(self, wanted: SetFunctionBreakpoints) -> Body:
@@ -96,7 +96,10 @@ class BreakpointRequests:
         return {"dataId": f"{address:x}:{size}", "description": description, "accessTypes": kinds, "canPersist": False}
 
     def _watched(self, program: Program, wanted: DataBreakpointInfo) -> tuple[int | None, int, str]:
-        """Return the address and the size of the data that a data breakpoint watches, or None and the reason."""
+        """Return the address and the number of bytes of the data that the client wants to watch, and "".
+
+        If the data isn't in memory, return None, 0 and the reason.
+        """
         if wanted.bytes is not None and wanted.bytes < 1:
             raise BadArguments("bytes is 1 or more")
         if wanted.as_address:
@@ -120,7 +123,7 @@ class BreakpointRequests:
         return {"breakpoints": list(rows)}
 
     def _row(self, each: Breakpoint) -> Body:
-        """A breakpoint as the client has it."""
+        """Return a breakpoint in the protocol's form."""
         body: Body = {"id": each.number, "verified": not each.problem} | _message(each.problem)
         if each.line:
             body |= self._debuggee.line_fields(Line(each.file, each.line), "source")
@@ -133,5 +136,5 @@ class BreakpointRequests:
 
 
 def _message(problem: str) -> Body:
-    """Why a breakpoint isn't verified, if it isn't."""
+    """Return the field `message` with the problem of a breakpoint; no field if the problem is ""."""
     return {"message": problem} if problem else {}

@@ -1,6 +1,6 @@
 """Breakpoints of the client: at lines, functions and addresses, and at data.
 
-The machine has 16 addresses for them. A breakpoint without room isn't verified, until others are removed.
+The machine can have breakpoints at 16 addresses. A breakpoint that needs more than are left isn't verified until others are removed.
 """
 
 import itertools
@@ -31,9 +31,9 @@ class Breakpoint:
     """A breakpoint of the client's.
 
     number: its identifier; kind: FUNCTIONS, INSTRUCTIONS, or the path of a source
-    addresses: of its instructions, in rising order
-    file, line: its place in a source, if that is known
-    problem: why it isn't verified, in a sentence, or ""
+    wanted: the client's request; addresses: of its instructions, in rising order
+    file, line: its source line, with the file's name without the folder; "" and 0 if the line is unknown
+    problem: a sentence that says why it isn't verified, or ""
     """
 
     number: int
@@ -46,18 +46,22 @@ class Breakpoint:
 
     @property
     def condition(self) -> str:
-        """An expression that has to be true for a stop; "" for none."""
+        """An expression that has to be true for a stop; "" if there is no condition."""
         return self.wanted.condition
 
     @property
     def log_message(self) -> str:
-        """A text that is printed in place of a stop; "" for none."""
+        """A text that is printed instead of a stop; "" if the program should stop."""
         return self.wanted.log_message if isinstance(self.wanted, SourceBreakpoint) else ""
 
 
 @dataclass(frozen=True)
 class DataStop:
-    """A data breakpoint of the client's. problem: why it isn't verified, in a sentence, or "" """
+    """A data breakpoint of the client's.
+
+    number: its identifier; watch: the watched memory; condition: an expression that has to be true for a stop, or ""
+    problem: a sentence that says why it isn't verified, or ""
+    """
 
     number: int
     watch: Watch
@@ -66,9 +70,9 @@ class DataStop:
 
 
 class Breakpoints:
-    """All breakpoints of a program.
+    """All breakpoints of a program. Iteration yields those at lines, functions and addresses.
 
-    data: those at data
+    data: the data breakpoints
     """
 
     def __init__(
@@ -77,17 +81,19 @@ class Breakpoints:
         address_of: Callable[[str, int], int],
         changed: Callable[[Breakpoint], object],
     ) -> None:
-        """check: raises LabError for a condition that can't be read; address_of: for a text and an offset that are no address
-
-        changed: is given a breakpoint that has become verified, or isn't any more
+        """check: raises LabError if a text isn't an expression
+        address_of: returns the address that a text names, plus an offset in bytes; raises LabError if that isn't an address
+        changed: called with a breakpoint whose place or problem has changed
         """
         self.data: Sequence[DataStop] = ()
         self._check, self._address_of, self._changed = check, address_of, changed
         self._program: Program | None = None
-        self._found_ones = dict[str, Sequence[Breakpoint]]()  # with their addresses, whether these have room or not
-        self._all = dict[str, Sequence[Breakpoint]]()
+        self._found_ones = dict[
+            str, Sequence[Breakpoint]
+        ]()  # by kind, before the machine's addresses are given to them
+        self._all = dict[str, Sequence[Breakpoint]]()  # by kind; those without room have a problem
         self._numbers = itertools.count(1)
-        self._set = frozenset[int]()  # that the machine has
+        self._set = frozenset[int]()  # the addresses that the machine has
 
     def __iter__(self) -> Iterator[Breakpoint]:
         return itertools.chain(*self._all.values())
@@ -102,7 +108,7 @@ class Breakpoints:
         self._watch()
 
     def replace(self, kind: str, wanted: Sequence[Wanted]) -> Sequence[Breakpoint]:
-        """Set all breakpoints of a kind in place of those before; return them in their order."""
+        """Set the breakpoints of a kind, and remove those that were set before. Return the new ones in the same order as `wanted`."""
         before, old = {each.number: each for each in self}, [*self._all.get(kind, ())]
         new = list[Breakpoint]()
         for each in wanted:
@@ -115,7 +121,10 @@ class Breakpoints:
         return self._all[kind]
 
     def replace_data(self, wanted: Sequence[DataBreakpoint]) -> Sequence[DataStop]:
-        """Set all data breakpoints in place of those before; return them in their order. Raises BadArguments."""
+        """Set the data breakpoints, and remove those that were set before. Return the new ones in the same order as `wanted`.
+
+        Raises BadArguments if the identifier of the data isn't one that `dataBreakpointInfo` returns.
+        """
         found, room = list[DataStop](), TOGETHER
         for each in wanted:
             parts = _DATA_ID.fullmatch(each.data_id)
@@ -135,20 +144,20 @@ class Breakpoints:
 
     @property
     def addresses(self) -> frozenset[int]:
-        """The addresses of breakpoints that are verified."""
+        """The addresses of the verified breakpoints, which the machine has."""
         return self._set
 
     @property
     def has_room(self) -> bool:
-        """Whether the machine takes another breakpoint."""
+        """Whether the machine has room for a breakpoint at another address."""
         return len(self._set) < MAX_BREAKPOINTS
 
     def at(self, address: int) -> list[Breakpoint]:
-        """The breakpoints at an address that are verified."""
+        """Return the verified breakpoints at an address."""
         return [each for each in self if address in each.addresses and not each.problem]
 
     def lines(self, path: pathlib.Path) -> Mapping[int, Sequence[int]]:
-        """The addresses of each line of a source that may have a breakpoint."""
+        """Return the lines of a source that may have a breakpoint, each with the addresses of the breakpoint."""
         return self._program.stops.get(path.name, {}) if self._program else {}
 
     def _watch(self) -> None:
@@ -156,7 +165,7 @@ class Breakpoints:
             self._program.timeline.watches = [each.watch for each in self.data if not each.problem]
 
     def _problem_of(self, wanted: Wanted | DataBreakpoint) -> str:
-        """Why a condition can't be read or isn't supported, or ""."""
+        """Return the reason why a breakpoint's condition isn't supported, or isn't an expression; "" if the condition is valid."""
         if wanted.hit_condition:
             return NO_HIT_CONDITIONS
         try:
@@ -167,7 +176,7 @@ class Breakpoints:
         return ""
 
     def _found(self, each: Breakpoint) -> Breakpoint:
-        """A breakpoint with its addresses in the program, or why it has none."""
+        """Return a breakpoint with its addresses in the program, or with the problem that it has none."""
         blank = replace(each, addresses=(), file="", line=0, problem="")
         if self._program is None:
             return replace(blank, problem="there is no program yet")
@@ -182,7 +191,7 @@ class Breakpoints:
                 return self._found_address(blank, self._program, reference, offset)
 
     def _found_line(self, blank: Breakpoint, line: int) -> Breakpoint:
-        """As `_found`, of a line; one without instructions has the breakpoint of the next line that has some."""
+        """Return a breakpoint at a line, as `_found` does. If the line has no instructions, use the next line that has some."""
         path = pathlib.Path(blank.kind)
         stops = self.lines(path)
         if not stops:
@@ -194,7 +203,7 @@ class Breakpoints:
         return replace(blank, addresses=stops[later], file=path.name, line=later)
 
     def _found_function(self, blank: Breakpoint, program: Program, name: str) -> Breakpoint:
-        """As `_found`, of a function with its inlined copies, or of a label."""
+        """Return a breakpoint at a function and its inlined copies, or at a label, as `_found` does."""
         entries = program.symbols.source.functions.get(name, {})
         addresses = sorted({address for each in entries.values() for address in each})
         if not addresses and name in program.symbols.addresses:
@@ -204,7 +213,7 @@ class Breakpoints:
         return self._with_line(replace(blank, addresses=addresses), program)
 
     def _found_address(self, blank: Breakpoint, program: Program, reference: str, offset: int) -> Breakpoint:
-        """As `_found`, of an address."""
+        """Return a breakpoint at an address plus an offset in bytes, as `_found` does. reference: the address, as text"""
         try:
             address = self._address_of(reference, offset)
         except LabError as error:
@@ -214,12 +223,15 @@ class Breakpoints:
         return self._with_line(replace(blank, addresses=[address]), program)
 
     def _with_line(self, each: Breakpoint, program: Program) -> Breakpoint:
-        """A breakpoint with the line of its first address."""
+        """Return a breakpoint with the source line of its first address, if the line is known."""
         line = program.line(each.addresses[0])
         return replace(each, file=line.file, line=line.number) if line else each
 
     def _place(self, before: Mapping[int, Breakpoint], kind: str) -> None:
-        """Give the machine's addresses to breakpoints, the oldest first, and report the changes of other kinds than this one."""
+        """Give the machine's addresses to the breakpoints, the oldest first, and report the breakpoints that have changed.
+
+        before: the breakpoints as they were, by number; kind: the kind that isn't reported, since the response to the client has it
+        """
         placed, used = dict[int, Breakpoint](), set[int]()
         for each in sorted(itertools.chain(*self._found_ones.values()), key=lambda it: it.number):
             new = {*each.addresses} - used
@@ -240,7 +252,7 @@ class Breakpoints:
                 self._changed(each)
 
     def _send(self, addresses: Iterable[int]) -> None:
-        """Set these breakpoints in the machine, in place of those before."""
+        """Set the machine's breakpoints at these addresses, and remove those at other addresses."""
         now = frozenset(addresses)
         if self._program:
             guest = self._program.guest

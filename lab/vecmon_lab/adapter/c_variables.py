@@ -1,4 +1,4 @@
-"""Variables of C in a frame, by the debug data: where they lie, and their numbers."""
+"""C variables of a frame, from debug data: where they are, and their values."""
 
 import functools
 from collections.abc import Callable, Iterator, Sequence
@@ -15,8 +15,8 @@ from ..machine.answers import Memory, Refused, elements_in
 from .instants import Frame, Instant
 from .values import read_number, typed_text
 
-_SHOWN, _LETTERS = 16, 80  # elements in the text of an array, and letters of a string
-_DEPTH = 3  # of arrays and structures in a text
+_SHOWN, _LETTERS = 16, 80  # the most elements in the text of an array, and the most letters of a string
+_DEPTH = 3  # the most arrays and structures inside each other in a text
 _ADDRESSES = 1 << 64
 
 OPTIMIZED_OUT = "optimized out"
@@ -27,16 +27,18 @@ UNREADABLE = "unreadable memory"
 
 @dataclass(frozen=True)
 class CVariable:
-    """A variable, a field, or an element of an array.
+    """A variable, a field of a structure, or an element of an array.
 
-    name, type: as C writes them; expression: that evaluates to it
-    kind: of its numbers with their bits, as `i32`, or "" if it has none; counts: an array's dimensions
-    data: the bytes of it, or why there are none, in words
-    address: its address; None if it isn't in memory
-    put: gives a number new bytes; None for what can't be changed
-    target: the kind of the numbers that a pointer points to, or "" if that is no number
-    layout: its type in the debug data; None if that has none
-    at: returns a variable in memory, from one without bytes, its address, and its number of bytes; None for a variable that is only numbers
+    name, type: as C writes them; expression: an expression with its value
+    kind: the kind of its numbers with their bits, such as `i32` (see `typed_text`); "" if it has no numbers
+    counts: the dimensions of an array; empty for other variables
+    data: its bytes, or the reason why they are unknown
+    address: None if it isn't in memory
+    put: writes new bytes to it; None if it can't be changed
+    target: the kind of the numbers that a pointer points to; "" if it points to no numbers
+    layout: its type in the debug data; None if the debug data has none
+    at: reads another variable from memory. Its arguments are the variable without its bytes, the address and the number of bytes; None if the
+        variable can't be a pointer.
     """
 
     name: str
@@ -53,36 +55,36 @@ class CVariable:
 
     @property
     def is_known(self) -> bool:
-        """Whether it has a value: a number, an array, or fields."""
+        """Whether its value is known: a number, an array, or fields."""
         return not isinstance(self.data, str) and bool(self.kind or self.fields or self.counts and self.layout)
 
     @property
     def count(self) -> int:
-        """The number of an array's elements; 0 of other variables."""
+        """The number of an array's elements; 0 for other variables."""
         return self.counts[0] if self.counts and self.is_known else 0
 
     @property
     def can_change(self) -> bool:
-        """Whether it is a number that can be changed."""
+        """Whether it can be changed; only numbers can."""
         return self.put is not None and self.is_known and bool(self.kind) and not self.counts
 
     @property
     def pointer(self) -> int | None:
-        """The address in a pointer; None of other variables."""
+        """The address that a pointer has; None for other variables."""
         return self.number() if self.is_known and not self.counts and self.kind[:1] == "x" else None
 
     @property
     def place(self) -> tuple[int, int] | None:
-        """Its address and number of bytes; None if it isn't in memory."""
+        """Its address and its number of bytes; None if it isn't in memory."""
         return (self.address, len(self.data)) if self.address is not None and self.is_known else None
 
     @property
     def fields(self) -> Sequence[Field]:
-        """The fields of a structure; none of an array of them."""
+        """The fields of a structure; empty for other variables, also for an array of structures."""
         return self.layout.fields if self.layout and not self.counts and not isinstance(self.data, str) else ()
 
     def number(self) -> int:
-        """Its unsigned number. Raises LabError if it has none."""
+        """Return its value as an unsigned number. Raises LabError if it isn't a number, or if its value is unknown."""
         if self.data == UNREADABLE and self.address is not None:
             raise LabError(f"memory at {self.address:#x} can't be read")
         if isinstance(self.data, str):
@@ -92,12 +94,15 @@ class CVariable:
         return int.from_bytes(self.data, "little")
 
     def value(self) -> int:
-        """Its number, with the sign of its type. Raises LabError if it has none."""
+        """Return its value, which is signed if its type is. Raises LabError if it isn't a number, or if its value is unknown."""
         number, bits = self.number(), int(self.kind[1:])
         return number - (1 << bits) if self.kind[0] in "ic" and number >> bits - 1 else number
 
     def text(self, is_hex: bool, depth: int = 0) -> str:
-        """Its value; of structures the fields as gdb writes them."""
+        """Return its value as text, with arrays and structures in gdb's form.
+
+        is_hex: whether numbers are written in hexadecimal; depth: the number of arrays and structures around it
+        """
         if isinstance(self.data, str):
             return self.data
         if not self.is_known:
@@ -116,12 +121,12 @@ class CVariable:
         return "{" + ", ".join(parts) + ", …" * (max(self.count, len(self.fields)) > len(parts)) + "}"
 
     def elements(self, start: int, count: int) -> "list[CVariable]":
-        """The elements of an array from one on; all others if the count is 0."""
+        """Return `count` elements of an array, from the index `start` on; if `count` is 0, all elements from there on."""
         stop = min(start + count if count else self.count, self.count)
         return [self.element(index) for index in range(start, stop)]
 
     def element(self, index: int) -> "CVariable":
-        """An element of an array, or what a pointer points to. Raises LabError if there is none."""
+        """Return the element of an array, or of the memory that a pointer points to, with an index. Raises LabError if there is none."""
         if self.pointer is not None and self.at:
             return self._pointed(index, self.pointer, self.at)
         if isinstance(self.data, str):
@@ -139,7 +144,7 @@ class CVariable:
         )
 
     def field(self, name: str) -> "CVariable":
-        """The field of this name. Raises LabError if there is none."""
+        """Return the field with a name. Raises LabError if there is none."""
         if isinstance(self.data, str):
             raise LabError(f"{self.name} is {self.data}")
         found = next((each for each in self.fields if each.name == name), None)
@@ -160,22 +165,22 @@ class CVariable:
 
     @property
     def has_pointee(self) -> bool:
-        """Whether it is a pointer, other than a null pointer, to something of a known type."""
+        """Whether it is a pointer to a value of a known type, and not a null pointer."""
         return bool(self.pointer and self.layout and self.layout.pointee and self.layout.pointee.size)
 
     def pointee(self) -> "CVariable | None":
-        """The value behind a pointer; None if there is none."""
+        """Return the value that a pointer points to; None if `has_pointee` is false."""
         if not self.has_pointee:
             return None
         return replace(self.element(0), name=f"*{self.name}", expression=f"*{self._operand}")
 
     @property
     def _operand(self) -> str:
-        """Its expression, in parentheses if it has an operator before it."""
+        """Its expression, in parentheses if it starts with `*`."""
         return f"({self.expression})" if self.expression.startswith("*") else self.expression
 
     def _part(self, at: int, size: int) -> "CVariable":
-        """A part of its bytes."""
+        """Return a variable with `size` of its bytes, from the offset `at` on."""
         assert not isinstance(self.data, str)
         return replace(
             self,
@@ -185,7 +190,10 @@ class CVariable:
         )
 
     def _pointed(self, index: int, pointer: int, at: "Callable[[CVariable, int, int], CVariable]") -> "CVariable":
-        """The value behind a pointer, or one after or before it. Raises LabError if its type isn't known."""
+        """Return the value with an index in the memory that a pointer points to. Raises LabError if the type of the value is unknown.
+
+        index: may be negative; pointer: the address; at: the attribute
+        """
         layout = self.layout.pointee if self.layout else None
         size = layout.size if layout else int(self.target[1:] or 0) // 8
         if not size:
@@ -203,7 +211,7 @@ class CVariable:
         return at(blank, (pointer + index * size) % _ADDRESSES, size)
 
     def set(self, text: str) -> None:
-        """Give it the number of a text. Raises LabError."""
+        """Set its value to the number in a text. Raises LabError."""
         if self.put is None or not self.can_change:
             raise LabError(f"{self.name} can't be changed")
         bits = int(self.kind[1:])
@@ -211,7 +219,10 @@ class CVariable:
 
 
 def c_variables(instant: Instant, frame: Frame) -> tuple[list[CVariable], list[CVariable]]:
-    """The variables of a frame's function, and those of all functions; of several with a name the one in the innermost block."""
+    """Return the local variables of a frame's function, and the global variables.
+
+    If several local variables in scope have the same name, only the one in the innermost block is returned.
+    """
     inside, names, shared = frame.call.inside, dict[str, TypedVariable](), dict[str, TypedVariable]()
     for each in instant.program.variables:
         variable = each.variable
@@ -223,18 +234,21 @@ def c_variables(instant: Instant, frame: Frame) -> tuple[list[CVariable], list[C
 
 
 def find_variable(instant: Instant, frame: Frame, name: str) -> CVariable | None:
-    """The variable of a name, if there is one."""
+    """Return the variable with a name in a frame; None if there is none."""
     return next((each for found in c_variables(instant, frame) for each in found if each.name == name), None)
 
 
 def number_at(instant: Instant, address: int, kind: str) -> CVariable:
-    """The number of a kind at an address."""
+    """Return the number at an address of memory, as a variable. kind: of the number, such as `i32` (see `typed_text`)
+
+    If the memory can't be read, the methods of the variable that return the number raise LabError.
+    """
     blank = CVariable(f"the number at {address:#x}", "", "", kind, [], "")
     return _in_memory(instant, blank, address, int(kind[1:]) // 8)
 
 
 def _placed(typed: TypedVariable, instant: Instant, frame: Frame) -> CVariable:
-    """A variable with its bytes."""
+    """Return a variable of the debug data with its bytes in a frame, or with the reason why they are unknown."""
     variable, layout = typed
     blank = CVariable(
         variable.name,
@@ -272,7 +286,7 @@ def _placed(typed: TypedVariable, instant: Instant, frame: Frame) -> CVariable:
 
 
 def _in_memory(instant: Instant, blank: CVariable, address: int, size: int) -> CVariable:
-    """A variable in memory."""
+    """Return the variable `blank` with `size` bytes from an address on, or without bytes if the memory can't be read."""
     guest = instant.program.guest
     answers = guest.ask(f"peek {address:x} 1", f"peek {address + max(1, size) - 1:x} 1") if address < 1 << 48 else []
     if not answers or not all(isinstance(each, Memory) for each in answers):
@@ -287,7 +301,10 @@ def _in_memory(instant: Instant, blank: CVariable, address: int, size: int) -> C
 
 
 def _in_vector_register(blank: CVariable, instant: Instant, frame: Frame, register: int) -> CVariable:
-    """A variable in vector registers: with the elements of its type, or else with those of the vector type in force."""
+    """Return the variable `blank` with the bytes of vector registers. register: the number of the first
+
+    If the debug data doesn't have a vector type for it, its elements are those of the vector type in force.
+    """
     if not frame.call.is_innermost:
         return replace(blank, data=CHANGED)
     v, layout = bytes(instant.registers.v[register * REGISTER_BYTES :]), blank.layout
@@ -300,7 +317,7 @@ def _in_vector_register(blank: CVariable, instant: Instant, frame: Frame, regist
 
 
 def _mask(variable: CVariable) -> CVariable:
-    """A variable of a mask type with a bit as each element; others as they are."""
+    """Return a variable of a mask type with one element for each bit, and any other variable unchanged."""
     if not variable.layout or not variable.layout.is_mask or isinstance(variable.data, str):
         return variable
     bits = elements_in(variable.data, 1)
@@ -308,33 +325,36 @@ def _mask(variable: CVariable) -> CVariable:
 
 
 def _bit_field(part: CVariable, data: bytes, first: int, count: int) -> CVariable:
-    """A field with the number of some bits of a structure's bytes. It can't be changed, and has no address."""
+    """Return a bit field, which has no address and can't be changed.
+
+    part: the field without its value; data: the bytes of the structure; first: the number of the field's first bit; count: of bits
+    """
     number = int.from_bytes(data, "little") >> first & (1 << count) - 1
     kind = f"{part.kind[:1]}{count}" if part.kind else ""
     return replace(part, kind=kind, data=number.to_bytes(8, "little"), address=None, put=None)
 
 
 def _put_register(instant: Instant, place: Location, data: bytes) -> None:
-    """Give a scalar register these bytes; a narrower number is sign-extended, as the ABI has it."""
+    """Write a number to a scalar register. A number of less than 64 bits is sign-extended, as the ABI requires."""
     value = int.from_bytes(data, "little", signed=True) % _ADDRESSES
     guest = instant.program.guest
     guest.ask(f"set x{place.register} {value:x}")
 
 
 def _put_part(put: Callable[[bytes], None], whole: bytes, at: int, data: bytes) -> None:
-    """Give a part of an array these bytes."""
+    """Write bytes to a part of a variable. put: writes all of the variable's bytes; whole: the present ones; at: the offset of the part"""
     put(whole[:at] + data + whole[at + len(data) :])
 
 
 def _string(data: bytes) -> str:
-    """A text of C, up to its zero byte."""
+    """Return a C string in quotation marks, up to its zero byte. A long string is cut off."""
     text = data.partition(b"\0")[0]
     shown = "".join(_letters(text[:_LETTERS]))
     return f'"{shown}"' + "…" * (len(text) > _LETTERS)
 
 
 def _letters(text: bytes) -> Iterator[str]:
-    """The characters of a text as C writes them."""
+    """Yield the characters of a string, each escaped as in C if necessary."""
     for byte in text:
         special = {10: "\\n", 9: "\\t", 34: '\\"', 92: "\\\\"}.get(byte)
         yield special or (chr(byte) if 32 <= byte < 127 else f"\\x{byte:02x}")

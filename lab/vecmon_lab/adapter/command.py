@@ -1,4 +1,4 @@
-"""The command `vecmon-lab dap`: it serves one client over standard input and output, or over a port of this computer."""
+"""The command `vecmon-lab dap`, which serves one client over standard input and output, or over a port of this computer."""
 
 import argparse
 import os
@@ -12,13 +12,16 @@ from .wire import Wire
 
 
 def add_arguments(parser: argparse.ArgumentParser) -> None:
-    """The words of `vecmon-lab dap`."""
+    """Add the arguments of `vecmon-lab dap`."""
     help_text = f"wait for one client at this port of {HOST}; 0 chooses one, which is printed"
     parser.add_argument("--port", metavar="N", type=between(0, 65535), help=help_text)
 
 
 def run(arguments: argparse.Namespace) -> int:
-    """Serve a client until it ends the session. Raises LabError for input that has no requests, and OSError if the port is taken."""
+    """Serve a client until it ends the session, and return the exit status 0.
+
+    Raises LabError for a message that isn't a request, and OSError if the port is in use.
+    """
     with ended_by_signals():
         if arguments.port is None:
             Session(Wire(os.dup(0), write_out)).serve()

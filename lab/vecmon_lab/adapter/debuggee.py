@@ -1,4 +1,4 @@
-"""The program of a session as its requests share it: its place, and the values that the client is shown there."""
+"""The state that the requests of a session share: the program, and the values of it that the client is shown."""
 
 from collections.abc import Callable, Mapping, Sequence
 from typing import Any
@@ -14,19 +14,25 @@ from .unwinding import CallFrame
 
 Body = dict[str, Any]
 Handlers = Mapping[str, tuple[type[Any], Callable[[Any], Body]]]
-"""Requests by name: the type of their arguments, and what answers them with a body. `start` in it is called after the response."""
+"""Requests by name: the class of their arguments, and the function that returns the body of the response.
 
-ADDRESSES, MAX_LETTERS = 1 << 64, 80  # and of a client's text in a message
+If the body has a function `start`, it isn't sent, but called after the response.
+"""
+
+ADDRESSES, MAX_LETTERS = 1 << 64, 80  # the number of addresses, and the most letters of a client's text in a message
 NO_PROGRAM = "no program was launched"
 RUNNING = "the program is running: pause it first"
 
 
 class Debuggee:
-    """The program, the client's settings for it, and the values that the client was shown.
+    """The program, the client's settings for it, and the values that the client is shown.
 
-    client: how the client counts; launch, program: None before a launch
-    is_running: whether the program moves; shown: None before the first question at a stop
-    reports: where events go; wants_stop: whether the client wants long work to end
+    client: the client's abilities, and how it counts lines and columns
+    launch, program: the arguments of the launch, and the program; None before a launch
+    is_running: whether a movement of the program is under way
+    shown: the values at the present stop; None if the client hasn't been shown any
+    reports: sends events to the client
+    wants_stop: returns whether the client wants long work to end
     """
 
     def __init__(self, reports: Reports, wants_stop: Callable[[], bool]) -> None:
@@ -38,39 +44,42 @@ class Debuggee:
         self.reports, self.wants_stop = reports, wants_stop
 
     def close(self) -> None:
-        """End the program's machine."""
+        """Close the program's machine, if a program was launched."""
         if self.program:
             self.program.close()
 
     def current(self) -> Program:
-        """The program. Raises LabError if there is none."""
+        """Return the program. Raises LabError if none was launched."""
         if self.program is None:
             raise LabError(NO_PROGRAM)
         return self.program
 
     def stopped(self) -> Program:
-        """The program, which is stopped. Raises LabError."""
+        """Return the stopped program. Raises LabError if no program was launched, or if it is running."""
         program = self.current()
         if self.is_running:
             raise LabError(RUNNING)
         return program
 
     def instant(self) -> Shown:
-        """What is shown of the stopped program. Raises LabError."""
+        """Return the values that the client is shown at the present stop. Raises LabError if the program isn't stopped."""
         program = self.stopped()
         self.shown = self.shown or Shown(Instant(program, None, self.wants_stop))
         return self.shown
 
     def now(self) -> Shown:
-        """What is shown of a program that is stopped just now, on its way."""
+        """Return the values at the program counter during a movement, to evaluate the conditions of breakpoints and their messages.
+
+        Raises LabError if no program was launched.
+        """
         return Shown(Instant(self.current(), None, self.wants_stop))
 
     def frames_now(self) -> Sequence[CallFrame]:
-        """The functions of a program that is stopped just now."""
+        """Return the call stack at the program counter during a movement, the innermost function first."""
         return Instant(self.current(), None, self.wants_stop).calls
 
     def changed(self) -> None:
-        """Show the program anew, as the client has changed it."""
+        """Read the shown values again after the client has changed the program, and ask the client to request them again."""
         program = self.current()
         if self.shown:
             self.shown = self.shown.renewed(Instant(program, None, self.wants_stop))
@@ -78,7 +87,7 @@ class Debuggee:
             self.reports.event("invalidated", areas=["variables"])
 
     def address(self, text: str, offset: int = 0) -> int:
-        """The address that a text names, with a number of bytes added to it. Raises LabError if it needs more than 64 bits."""
+        """Return the address that a text names, plus `offset` bytes. Raises LabError if the text names none, or if the sum isn't within 64 bits."""
         address = evaluation.address_of(self.current(), text) + offset
         if not 0 <= address < ADDRESSES:
             shown = f"{text.strip()[:MAX_LETTERS]} with the offset {offset}"
@@ -86,10 +95,10 @@ class Debuggee:
         return address
 
     def line_fields(self, line: Line, name: str) -> Body:
-        """The number of a line as the client counts, and its source in a field of this name."""
+        """Return two fields of a response about a source line: `line`, its number as the client counts, and, with the key `name`, its source."""
         return {"line": line.number - (not self.client.lines_start_at_1), name: self.source(line.file)}
 
     def source(self, file: str) -> Body:
-        """A source file as the client has it."""
+        """Return a source in the protocol's form, with the file's path if the file is found. file: its name without its folder"""
         path = self.program.path_of(file) if self.program else None
         return {"name": file, "path": f"{path}"} if path else {"name": file, "presentationHint": "deemphasize"}

@@ -21,20 +21,22 @@ from .vectors import group_at
 
 _VECTOR = re.compile(r"v(\d|[12]\d|3[01])")
 _COMMAND = re.compile(r"(why|help)\b\s*(.*)")
-_COMMAND_ANYWHERE = re.compile(r"(why|help)\s+([.\w].*)")  # which is no expression, whatever variables there are
+_COMMAND_ANYWHERE = re.compile(
+    r"(why|help)\s+([.\w].*)"
+)  # no expression has this form, so the command works everywhere
 _NUMBER = re.compile(r"0[xX][0-9a-fA-F]+|[0-9]+")
 _MAX_DIGITS = 20  # of a decimal number with 64 bits
 
 
 @dataclass(frozen=True)
 class Evaluation:
-    """The result of an expression: a row, or a text of several lines."""
+    """The result of an expression: a row whose value may have several lines."""
 
     item: Item
 
 
 def address_of(program: Program, text: str) -> int:
-    """The address that a text names: digits, or a symbol, perhaps with a number added to it. Raises LabError."""
+    """Return the address that a text names: a number or a symbol, to which `+` and a number may add bytes. Raises LabError."""
     name, sign, offset = text.strip().partition("+")
     if sign and not _NUMBER.fullmatch(offset.strip()):
         raise LabError(f"{text.strip()} is no address: 0x10000 and main+8 are some")
@@ -49,7 +51,7 @@ def address_of(program: Program, text: str) -> int:
 
 
 def _number(text: str) -> int:
-    """The number of digits, which are hexadecimal after 0x. Raises LabError."""
+    """Return the value of a decimal number, or of a hexadecimal one after 0x. Raises LabError if a decimal one has too many digits."""
     if text[:2] in ("0x", "0X"):
         return int(text, 16)
     if len(text) > _MAX_DIGITS:
@@ -58,9 +60,10 @@ def _number(text: str) -> int:
 
 
 def evaluate(instant: Instant, frame: Frame, text: str, context: str, is_hex: bool) -> Item:
-    """Return the row of an expression, or the answer to `why v8[3]` or `help NAME`. Raises LabError.
+    """Return the row of an expression, or the output of a command such as `why v8[3]` or `help NAME`. Raises LabError.
 
     context: where the client shows the result: `hover`, `watch`, `repl` (the debug console) and others
+    is_hex: whether numbers are written only in hexadecimal
     """
     if found := (_COMMAND if context == "repl" else _COMMAND_ANYWHERE).fullmatch(text.strip()):
         answer = why(instant, *read_name(found[2])) if found[1] == "why" else "\n".join(help_lines(found[2]))
@@ -82,13 +85,13 @@ def evaluate(instant: Instant, frame: Frame, text: str, context: str, is_hex: bo
 
 @dataclass(frozen=True)
 class FrameNames:
-    """The meanings of names in an expression at an instant, in a frame."""
+    """The values of names at an instant, in a frame, for the evaluation of expressions."""
 
     instant: Instant
     frame: Frame
 
     def value(self, name: str, path: expressions.Path) -> expressions.Value:
-        """Return the value of a name, with the indices and fields after it. Raises LabError."""
+        """Return the value of a name, or of the element or field to which a path leads from it. Raises LabError."""
         if found := _VECTOR.fullmatch(name):
             group = group_at(self.instant, int(found[1]))
             match path:
@@ -106,13 +109,13 @@ class FrameNames:
         return expressions.Value(address)
 
     def load(self, address: int, kind: str) -> expressions.Value:
-        """Return the number of a kind at an address. Raises LabError."""
+        """Return the number at an address of memory. kind: of the number, such as `i32`. Raises LabError if memory can't be read."""
         found = number_at(self.instant, address, kind)
         return expressions.Value(found.value(), place=found.place)
 
 
 def set_expression(instant: Instant, frame: Frame, text: str, value: str) -> None:
-    """Give the register, element or variable that an expression is a new number. Raises LabError."""
+    """Set the register, element or variable that an expression names. value: the new number, as text. Raises LabError."""
     item = _item(instant, frame, *expressions.name_in(text, FrameNames(instant, frame)), False)
     if item.change is None:
         raise LabError(f"{text.strip()} can't be changed")
@@ -120,14 +123,14 @@ def set_expression(instant: Instant, frame: Frame, text: str, value: str) -> Non
 
 
 def completions(instant: Instant, frame: Frame, start: str) -> list[str]:
-    """The names that begin with a text."""
+    """Return the names that begin with a text, in alphabetical order."""
     names: Iterable[str] = [*REGISTERS, *(f"v{number}" for number in range(32)), *instant.program.symbols.addresses]
     own = [each.variable.name for each in instant.program.variables]
     return sorted({name for name in [*names, *own, "why", "help"] if name.startswith(start)})
 
 
 def _item(instant: Instant, frame: Frame, name: str, path: expressions.Path, is_hex: bool) -> Item:
-    """The row of a name with indices and fields. Raises LabError."""
+    """Return the row of a name, or of the element or field to which a path leads from it. Raises LabError."""
     if found := _VECTOR.fullmatch(name):
         row = group_item(group_at(instant, int(found[1])), is_hex)
         if not path:
@@ -148,7 +151,10 @@ def _item(instant: Instant, frame: Frame, name: str, path: expressions.Path, is_
 
 
 def _variable(instant: Instant, frame: Frame, name: str, path: expressions.Path) -> CVariable | None:
-    """The variable of a name, or a part of it; None if there is no such variable. Raises LabError if there is no such part."""
+    """Return the variable with a name, or the part of it to which a path leads; None if there is no such variable.
+
+    Raises LabError if the variable has no such part.
+    """
     found = find_variable(instant, frame, name)
     for part in path if found else ():
         found = found and (found.field(part) if isinstance(part, str) else found.element(part))
@@ -156,7 +162,10 @@ def _variable(instant: Instant, frame: Frame, name: str, path: expressions.Path)
 
 
 def _register(instant: Instant, frame: Frame, name: str) -> int | None:
-    """The value of a scalar or control register; None if the name is another one. Raises LabError."""
+    """Return the value of a scalar or vector control register in a frame; None if the name is no such register.
+
+    Raises LabError if the value is unknown in this frame.
+    """
     if name == "pc":
         return frame.call.address
     register = REGISTERS.get(name)
@@ -171,7 +180,7 @@ def _register(instant: Instant, frame: Frame, name: str) -> int | None:
 
 
 def _described(instant: Instant, frame: Frame, text: str) -> str:
-    """What an instruction or a directive does, for a name that is neither a register, a variable nor a symbol; else ""."""
+    """Return the description of an instruction or a directive; "" if there is none, or if a register, variable or symbol has the name."""
     name = text.strip()
     is_value = name in REGISTERS or find_variable(instant, frame, name) or name in instant.program.symbols.addresses
     if is_value or _VECTOR.fullmatch(name) or not re.fullmatch(r"[.\w]+", name):
@@ -180,7 +189,7 @@ def _described(instant: Instant, frame: Frame, text: str) -> str:
 
 
 def _is_described(name: str) -> bool:
-    """Whether there is a record of a name."""
+    """Return whether the lab has a description of a name."""
     from ..instructions.table import instruction_table
 
     return name in instruction_table() or name in records()

@@ -57,8 +57,8 @@ _WORD = (1 << 64) - 1
 class Value(NamedTuple):
     """The value of an expression.
 
-    target: the kind of the numbers that it points to, as `i32`; "" if it is no pointer
-    place: the address and the number of bytes of the memory that it was read from; None for others
+    target: the kind of the numbers that a pointer points to, such as `i32`; "" if the value isn't a pointer
+    place: the address and the number of bytes of the memory that the value was read from; None if it wasn't read from memory
     """
 
     number: int
@@ -67,17 +67,17 @@ class Value(NamedTuple):
 
 
 Path = tuple[int | str, ...]
-"""Indices of elements and names of fields after a name. The value behind a pointer has index 0."""
+"""The indices and the names of fields that lead from a name to a part of its value. `*` is index 0, and `->` index 0 and a field."""
 
 
 class Names(Protocol):
-    """The meanings of names in an expression, and the bytes of memory."""
+    """The values of names in an expression, and the contents of memory."""
 
     def value(self, name: str, path: Path) -> Value:
-        """Return the value of a name, with the indices and fields after it. Raises LabError."""
+        """Return the value of a name, or of the element or field to which a path leads from it. Raises LabError."""
 
     def load(self, address: int, kind: str) -> Value:
-        """Return the number of a kind at an address. Raises LabError."""
+        """Return the number at an address of memory. kind: of the number, such as `i32`. Raises LabError if memory can't be read."""
 
 
 @dataclass(frozen=True)
@@ -98,7 +98,7 @@ class _Element:
 
 @dataclass(frozen=True)
 class _Field:
-    """A field of a structure, or of the one that a pointer points to."""
+    """A field of a structure. is_pointed: whether `of` is a pointer to the structure (`->`)"""
 
     of: "_Node"
     name: str
@@ -107,7 +107,7 @@ class _Field:
 
 @dataclass(frozen=True)
 class _Cast:
-    """A pointer to numbers of a kind."""
+    """A cast to a pointer to numbers, such as `(int32_t *)a0`. kind: of the numbers"""
 
     kind: str
     operand: "_Node"
@@ -130,17 +130,17 @@ _Node = _Number | _Name | _Element | _Field | _Cast | _Unary | _Binary
 
 
 def check(text: str) -> None:
-    """Raise LabError if a text is no expression."""
+    """Raise LabError if a text isn't an expression."""
     _parsed(text)
 
 
 def evaluate(text: str, names: Names) -> Value:
-    """Return the value of an expression; a comparison is 0 or 1. Raises LabError."""
+    """Return the value of an expression. The value of a comparison is 0 or 1. Raises LabError."""
     return _value(_parsed(text), names)
 
 
 def is_name(text: str) -> bool:
-    """Whether an expression is a name, perhaps with indices, fields, or `*` before it."""
+    """Return whether a text is a name that may have indices and fields after it, or `*` before it."""
     try:
         node = _parsed(text)
     except LabError:
@@ -149,7 +149,7 @@ def is_name(text: str) -> bool:
 
 
 def name_in(text: str, names: Names) -> tuple[str, Path]:
-    """Return the name that an expression is, and the indices and fields after it. Raises LabError if it is another one."""
+    """Return the name in an expression, and the path of the indices, fields and `*` at it. Raises LabError unless `is_name` is true."""
     name, path = _path(_parsed(text), names)
     if not isinstance(name, _Name):
         raise LabError(f"{text.strip()} isn't a name, as a0, v8[3] or x[2] are")
@@ -157,7 +157,7 @@ def name_in(text: str, names: Names) -> tuple[str, Path]:
 
 
 class _Parser:
-    """Reads the tokens of an expression. Raises ValueError if they are none, and LabError for types that aren't supported."""
+    """Parses an expression. Raises ValueError if the text isn't one, and LabError for a type that isn't supported."""
 
     def __init__(self, text: str) -> None:
         self._tokens, at = list[str](), 0
@@ -170,14 +170,14 @@ class _Parser:
         self._at = self._depth = 0
 
     def expression(self) -> _Node:
-        """Read all tokens."""
+        """Parse all tokens, and return the expression."""
         node = self._binary(0)
         if self._next():
             raise ValueError
         return node
 
     def _next(self) -> str:
-        """The next token; "" at the end."""
+        """Return the next token without taking it; "" at the end."""
         return self._tokens[self._at] if self._at < len(self._tokens) else ""
 
     def _take(self) -> str:
@@ -190,7 +190,7 @@ class _Parser:
             raise ValueError
 
     def _binary(self, level: int) -> _Node:
-        """Read operands with the operators of a level, and of those that bind more tightly."""
+        """Parse operands and the operators between them that have this level or bind more tightly."""
         node = self._unary()
         while _PRECEDENCES.get(self._next(), -1) >= level:
             sign = self._take()
@@ -213,9 +213,9 @@ class _Parser:
         return node
 
     def _take_cast(self) -> str:
-        """Read a pointer's type in parentheses if it is next, such as `(int32_t *)`; return the kind that it points to, else "".
+        """Parse a pointer type in parentheses, such as `(int32_t *)`. Return the kind of the numbers that it points to.
 
-        Raises LabError for other types, such as `(float *)`.
+        Return "" if the next tokens aren't a pointer type. Raises LabError for a type that isn't supported, such as `(float *)`.
         """
         end = self._at + 1
         while self._next() == "(" and "".join(self._tokens[end : end + 1]).isidentifier():
@@ -244,7 +244,7 @@ class _Parser:
         return _Name(token)
 
     def _with_parts(self, node: _Node) -> _Node:
-        """Read indices and fields after a node."""
+        """Parse the indices and fields after a node, and return the node with them."""
         while (sign := self._next()) in ("[", ".", "->"):
             self._take()
             if sign == "[":
@@ -258,7 +258,7 @@ class _Parser:
 
 
 def _parsed(text: str) -> _Node:
-    """The tree of an expression. Raises LabError."""
+    """Parse an expression. Raises LabError if the text isn't one, or if it is too long."""
     if len(text) > _MAX_LETTERS:
         raise LabError(f"an expression has {_MAX_LETTERS:,} characters at most")
     written = text.strip()
@@ -269,7 +269,7 @@ def _parsed(text: str) -> _Node:
 
 
 def _is_path(node: _Node) -> bool:
-    """Whether a node is a name, with what `_path` takes."""
+    """Return whether a node is a name, with only indices, fields and `*` around it."""
     match node:
         case _Element(of, _) | _Field(of, _, _) | _Unary("*", of):
             return _is_path(of)
@@ -277,7 +277,7 @@ def _is_path(node: _Node) -> bool:
 
 
 def _path(node: _Node, names: Names) -> tuple[_Node, Path]:
-    """What indices, fields and `*` are at, and their path. Raises LabError."""
+    """Return the node inside the indices, fields and `*` of a node, and their path. Raises LabError if an index can't be evaluated."""
     parts = list[int | str]()
     while True:
         match node:
@@ -293,7 +293,7 @@ def _path(node: _Node, names: Names) -> tuple[_Node, Path]:
 
 
 def _value(node: _Node, names: Names) -> Value:
-    """The value of a node. Raises LabError."""
+    """Return the value of a node. Raises LabError."""
     match node:
         case _Number(number):
             return Value(number)
@@ -312,7 +312,7 @@ def _value(node: _Node, names: Names) -> Value:
 
 
 def _value_of_path(node: _Node, names: Names) -> Value:
-    """The value of a name with indices and fields, or of a pointer with indices. Raises LabError."""
+    """Return the value of a name with indices and fields, or of a pointer with indices. Raises LabError."""
     start, path = _path(node, names)
     if isinstance(start, _Name):
         return names.value(start.name, path)
@@ -325,19 +325,22 @@ def _value_of_path(node: _Node, names: Names) -> Value:
 
 
 def _load(pointer: Value, index: int, names: Names) -> Value:
-    """The number that a pointer points to, or another one after it. Raises LabError."""
+    """Return the number with an index in the memory that a pointer points to. Raises LabError."""
     if not pointer.target:
         raise LabError("only a pointer has * before it or an index after it, such as *(int32_t *)a0")
     return names.load((pointer.number + index * _size(pointer)) & _WORD, pointer.target)
 
 
 def _size(pointer: Value) -> int:
-    """The bytes of a number that a pointer points to."""
+    """Return the number of bytes of a number that a pointer points to."""
     return int(pointer.target[1:]) // 8
 
 
 def _calculate(sign: str, left: Value, right: Value) -> Value:
-    """The result of two values. Numbers that are added to a pointer count what it points to. Raises LabError."""
+    """Return the result of an operator. Raises LabError.
+
+    As in C, the number that is added to a pointer, and the difference of two pointers, count numbers, not bytes.
+    """
     if sign in _COMPARISONS:
         return Value(int(_compare(sign, left.number, right.number)))
     if sign == "-" and left.target and right.target:
@@ -358,14 +361,14 @@ def _calculate(sign: str, left: Value, right: Value) -> Value:
 
 
 def _compare(sign: str, left: int, right: int) -> bool:
-    """Whether a comparison holds. Numbers are equal if their low 64 bits are, so that a register may be compared with -1."""
+    """Return whether a comparison holds. `==` and `!=` compare the low 64 bits, so that a register can be compared with -1."""
     if sign in ("==", "!="):
         left, right = left & _WORD, right & _WORD
     return _COMPARISONS[sign](left, right)
 
 
 def _divide(sign: str, left: int, right: int) -> int:
-    """The quotient, rounded towards zero as in C, or the remainder. Raises LabError."""
+    """Return the quotient, rounded towards zero as in C, or the remainder. Raises LabError for a division by 0."""
     if right == 0:
         raise LabError("the expression divides by 0")
     quotient = abs(left) // abs(right) * (1 if (left < 0) == (right < 0) else -1)

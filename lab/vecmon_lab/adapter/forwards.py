@@ -1,4 +1,4 @@
-"""A program moves forwards: it runs, or is stepped by lines or instructions, into calls, over them, or out of a function."""
+"""Movements of a program forwards: it runs, or is stepped by lines or instructions, into calls, over them, or out of a function."""
 
 from collections.abc import Callable, Sequence
 
@@ -10,19 +10,19 @@ from .halts import Halt, Halts
 from .program import Line
 from .unwinding import CallFrame
 
-BLOCK_WORDS = 16  # instructions that are executed at once, at most
+BLOCK_WORDS = 16  # the most instructions that are executed at once
 
 
 class Forwards:
-    """Moves a program forwards. Each movement returns the halt that ended it, or None if it is complete."""
+    """Moves a program forwards. Each movement returns the halt that ended it, or None if it was completed."""
 
     def __init__(self, halts: Halts, frames: Callable[[], Sequence[CallFrame]]) -> None:
-        """frames: returns the functions at the program's place, the innermost first"""
+        """frames: returns the call stack at the program counter, the innermost function first"""
         self._halts, self._frames = halts, frames
-        self._words = dict[int, int]()  # words of the present step by address
+        self._words = dict[int, int]()  # words by address, as they were when the step began
 
     def go_on(self) -> Halt:
-        """Run to a halt. The client is answered also in a loop whose every instruction is at a breakpoint."""
+        """Run to a halt. The client's requests are answered after each stop, even in a loop with a breakpoint at each instruction."""
         while True:
             stop = self._halts.timeline.go(self._halts.client.has_requests)
             if stop and (halt := self._halts.at_stop(stop)):
@@ -30,13 +30,13 @@ class Forwards:
             self._halts.attend()
 
     def _step_once(self) -> Halt | None:
-        """Execute an instruction; the halt that ends the movement, if there is one."""
+        """Execute one instruction. Return the halt after it; None if the movement may go on."""
         self._halts.attend()
         stop = self._halts.timeline.step()
         return self._halts.at_stop(stop) if stop else self._halts.here()
 
     def step_call(self, is_over: bool) -> Halt | None:
-        """Execute an instruction, or a call with all that it executes."""
+        """Execute one instruction. is_over: whether to execute a call up to its return"""
         pc = self._halts.guest.pc
         return self._pass_call() if is_over and is_call(self._halts.guest.word_at(pc)[0]) else self._step_once()
 
@@ -45,7 +45,10 @@ class Forwards:
         return self.run_to(self._halts.guest.pc + 4, self._halts.stack())
 
     def run_to(self, address: int, stack: int) -> Halt | None:
-        """Run to an address where the stack pointer is at least this; the halt, if another one ends the movement."""
+        """Run to an address; return the halt if the program halts before.
+
+        stack: the lowest stack pointer at the end; at a lower one the address is reached in a deeper call, and the program goes on
+        """
         is_new = address not in self._halts.breakpoints.addresses
         if is_new and not self._halts.breakpoints.has_room:
             return self._step_to(address, stack)
@@ -61,7 +64,9 @@ class Forwards:
                 elif stop and (halt := self._halts.at_stop(stop)):
                     return halt
                 self._halts.attend()
-                self._halts.guest.ask(*[f"break {address:x}"] * is_new)  # the client may have set others
+                self._halts.guest.ask(
+                    *[f"break {address:x}"] * is_new
+                )  # again, since the client may have changed breakpoints
         finally:
             if address not in self._halts.breakpoints.addresses:
                 self._halts.guest.ask(f"unbreak {address:x}")
@@ -70,7 +75,7 @@ class Forwards:
         return stop.kind == "break" and stop.pc == address and not self._halts.timeline.hit
 
     def _step_to(self, address: int, stack: int) -> Halt | None:
-        """As `run_to`, by single steps: the machine has no breakpoint left."""
+        """Move as `run_to` does, but by single steps, since the machine has no room for another breakpoint."""
         while True:
             if halt := self._step_once():
                 return halt
@@ -78,7 +83,10 @@ class Forwards:
                 return None
 
     def step_line(self, is_over: bool) -> Halt | None:
-        """Execute instructions up to another line. Functions without lines are passed over, and inlined ones as calls are."""
+        """Execute instructions up to another source line. Calls of functions without source lines are executed up to their return.
+
+        is_over: whether to execute the calls of other functions up to their return, too, and inlined copies up to their end
+        """
         start, copies = self._halts.line(), [copy.number for copy in self._copies()]
         self._words.clear()
         while True:
@@ -89,7 +97,10 @@ class Forwards:
                 return None
 
     def _step_part(self, is_over: bool, line: Line | None) -> Halt | None:
-        """Execute a call with all that it executes, or else instructions of a line up to one that may jump."""
+        """Execute a call up to its return, one instruction, or several instructions of a line up to one that may jump.
+
+        is_over: whether to execute all calls up to their return; line: the line of the present instruction, or None
+        """
         pc = self._halts.guest.pc
         if is_call(self._word(pc)) and (is_over or self._calls_unknown(pc)):
             return self._pass_call()
@@ -101,9 +112,9 @@ class Forwards:
         return self._halts.at_stop(stop) if stop else self._halts.here()
 
     def _straight(self, pc: int, line: Line) -> int:
-        """How many instructions execute one after another from an address on.
+        """Return the number of instructions from an address on that execute one after another, at most BLOCK_WORDS.
 
-        They are of a line, up to one that may jump, or up to a breakpoint or a call.
+        They belong to `line`. The last one may jump, or comes before a breakpoint, a call or an instruction of another line.
         """
         for count in range(1, BLOCK_WORDS + 1):
             address = pc + 4 * count
@@ -114,7 +125,7 @@ class Forwards:
         return BLOCK_WORDS
 
     def _word(self, address: int) -> int:
-        """The word at an address, as it was when the step began."""
+        """Return the word at an address as it was when the step began; 0 if there is no memory."""
         if address not in self._words:
             listed = self._halts.program.words(range(address, address + 4 * BLOCK_WORDS, 4))
             self._words |= {at: word.word for at, word in listed.items()}
@@ -125,18 +136,21 @@ class Forwards:
         return self._halts.program.symbols.source.copies_at(self._halts.guest.pc)
 
     def _is_within(self, copies: Sequence[int], line: Line) -> bool:
-        """Whether the program is in a function that is inlined in the innermost of these copies, for a call in a line."""
+        """Return whether the program is in an inlined copy that the line calls from the innermost of `copies`.
+
+        copies: the numbers of the inlined copies and the function around the start of the step, the innermost first; line: at this start
+        """
         now = self._copies()
         called = [inner.called for inner, outer in zip(now, now[1:]) if [outer.number] == copies[:1]]
         return called == [f"{line.file}:{line.number}"]
 
     def _calls_unknown(self, pc: int) -> bool:
-        """Whether a call calls a function without source lines."""
+        """Return whether the call at an address calls a function without source lines; false if it calls an address in a register."""
         target = jump_target(pc, self._word(pc))
         return target is not None and self._halts.program.line(target) is None
 
     def step_out(self) -> Halt | None:
-        """Run to where the function has returned, or behind an inlined copy. Raises LabError in the outermost one."""
+        """Run until the present function has returned, or the present inlined copy has ended. Raises LabError in the outermost function."""
         copies = self._copies()
         if copies and copies[0].called:
             return self._leave_copy(copies[0].number)
@@ -151,7 +165,7 @@ class Forwards:
         return self._step_once()
 
     def to_line(self) -> Halt | None:
-        """Execute instructions up to one that has a line, if this one has none in a function that has lines."""
+        """Execute instructions up to one that has a source line, if the present one has none and is in a function with source lines."""
         function, stack = self._halts.program.place(self._halts.guest.pc).partition("+")[0], self._frames()[0].stack
         if function not in self._halts.program.symbols.source.functions or stack is None:
             return None
@@ -161,7 +175,7 @@ class Forwards:
         return None
 
     def _leave_copy(self, number: int) -> Halt | None:
-        """Execute instructions up to one outside an inlined copy."""
+        """Execute instructions up to one outside an inlined copy. number: the copy's"""
         while True:
             if halt := self.step_call(True):
                 return halt

@@ -19,24 +19,25 @@ class Paused(Exception):
 
 
 class Client(Protocol):
-    """Questions of a moving program to its client."""
+    """The client, as a movement of the program asks it."""
 
     def has_requests(self) -> bool:
-        """Whether the client has sent something that isn't answered, or has gone."""
+        """Return whether the client has sent a request that is answered during the movement, or has gone."""
 
     def is_stopping(self) -> bool:
-        """Answer what a running program can; return whether the client wants it to stop, or has gone."""
+        """Answer the requests that are answered during the movement. Return whether the client wants the program to stop, or has gone."""
 
     def wants_stop(self) -> bool:
-        """Whether the client wants long work to end, or has gone; nothing is answered."""
+        """Return whether the client wants long work to end, or has gone. No request is answered."""
 
 
 @dataclass(frozen=True)
 class Halt:
-    """Where a movement ended.
+    """The end of a movement.
 
-    reason: as the protocol calls it
-    stop: why the program stopped by itself; text: a sentence; numbers: of the breakpoints that were met
+    reason: in the protocol's words, such as `step` or `breakpoint`
+    stop: the stop if the program stopped by itself, otherwise None; text: a sentence about the halt, or ""
+    numbers: the identifiers of the breakpoints that were met
     """
 
     reason: str
@@ -46,9 +47,9 @@ class Halt:
 
 
 class Halts:
-    """Decides where a program that moves halts.
+    """Decides where a moving program halts.
 
-    program, breakpoints, client: those of the debugger; guest, timeline: those of the program
+    program, breakpoints, client: of the session; guest, timeline: of the program
     """
 
     def __init__(
@@ -59,26 +60,29 @@ class Halts:
         holds: Callable[[Breakpoint], bool],
         holds_text: Callable[[str], bool],
     ) -> None:
-        """holds: whether a breakpoint that was met stops the program; holds_text: the same of a condition alone"""
+        """holds: returns whether a breakpoint that was met stops the program; holds_text: returns whether a condition holds"""
         self.program, self.breakpoints, self.client = program, breakpoints, client
         self.guest, self.timeline = program.guest, program.timeline
         self._holds, self._holds_text = holds, holds_text
 
     def line(self) -> Line | None:
-        """The source line of the program counter."""
+        """Return the source line at the program counter; None if it is unknown."""
         return self.program.line(self.guest.pc)
 
     def stack(self) -> int:
-        """The stack pointer."""
+        """Return the value of the stack pointer."""
         return self.program.scalars()[SP]
 
     def attend(self) -> None:
-        """Answer the client. Raises Paused if it wants the program to stop, or has gone."""
+        """Answer the client's requests that are answered during a movement.
+
+        Raises Paused if the client wants the program to stop, or has gone.
+        """
         if self.client.has_requests() and self.client.is_stopping():
             raise Paused
 
     def at_stop(self, stop: Stop) -> Halt | None:
-        """The halt at a stop; None if the program goes on from there, as a condition doesn't hold."""
+        """Return the halt at a stop of the machine; None if the program goes on, since no condition holds there."""
         if stop.kind == "break":
             return self._pass_access(self.timeline.hit) if self.timeline.hit else self.here()
         if stop.kind == "exit":
@@ -88,7 +92,7 @@ class Halts:
         return Halt("exception" if stop.kind == "fault" else "breakpoint", stop, self.guest.explain(stop))
 
     def here(self) -> Halt | None:
-        """The halt at breakpoints of the program counter; None if there are none that stop the program."""
+        """Return the halt at the breakpoints of the program counter; None if none of them stops the program."""
         if self.guest.pc not in self.breakpoints.addresses:
             return None
         there = [each for each in self.breakpoints.at(self.guest.pc) if self._holds(each)]
@@ -98,7 +102,10 @@ class Halts:
         return Halt(reasons.get(there[0].kind, "breakpoint"), numbers=[each.number for each in there])
 
     def _pass_access(self, hit: Watch) -> Halt | None:
-        """Execute the instruction that accesses watched data; None if it doesn't change what is watched for changes."""
+        """Execute the instruction that accesses watched data, and return the halt after it; None if the program goes on.
+
+        hit: the watch, which the instruction meets. A watch for changes stops the program only if the data has changed.
+        """
         before = self.guest.peek(hit.address, hit.length)
         with self.unwatched():
             stop = self.timeline.step()
@@ -109,7 +116,7 @@ class Halts:
         return self.after_access(hit) or self.here()
 
     def after_access(self, hit: Watch) -> Halt | None:
-        """The halt after an access to watched data; None if a condition doesn't hold."""
+        """Return the halt after an access to watched data; None if no data breakpoint of this watch has a condition that holds."""
         there = [each for each in self.breakpoints.data if each.watch == hit and not each.problem]
         met = [each.number for each in there if not each.condition or self._holds_text(each.condition)]
         verb = {"watch": "changed", "rwatch": "was loaded"}.get(hit.kind, "was accessed")
@@ -117,7 +124,7 @@ class Halts:
 
     @contextlib.contextmanager
     def unwatched(self) -> Iterator[None]:
-        """No data is watched meanwhile."""
+        """Return a context in which no data is watched."""
         saved, self.timeline.watches = self.timeline.watches, []
         try:
             yield

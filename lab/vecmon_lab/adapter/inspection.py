@@ -1,4 +1,4 @@
-"""Requests that look at the stopped program, and that change its variables and its memory."""
+"""Requests that inspect the stopped program, or change its variables and its memory."""
 
 from .. import LabError
 from .debuggee import Body, Debuggee, Handlers
@@ -21,14 +21,14 @@ from .running import THREAD
 
 
 class Inspection:
-    """The answers to a client that shows the program: frames, variables, expressions, memory and instructions."""
+    """Answers requests about the stopped program: its frames, variables, expressions, memory and instructions."""
 
     def __init__(self, debuggee: Debuggee) -> None:
         self._debuggee = debuggee
 
     @property
     def handlers(self) -> Handlers:
-        """The requests."""
+        """The handlers of these requests, by the request's name."""
         return {
             "threads": (NoArguments, self._threads),
             "stackTrace": (StackTrace, self._stack_trace),
@@ -55,7 +55,7 @@ class Inspection:
         return {"stackFrames": rows[wanted.start_frame : end], "totalFrames": len(frames)}
 
     def _frame(self, number: int, frame: Frame) -> Body:
-        """A frame as the client has it."""
+        """Return a frame in the protocol's form. number: 1 for the innermost frame"""
         body: Body = {"id": number, "name": frame.name or f"{frame.call.address:#x}", "column": 0, "line": 0}
         body["instructionPointerReference"] = f"{frame.call.address:#x}"
         line = self._debuggee.line_fields(frame.line, "source") if frame.line else {"presentationHint": "subtle"}

@@ -1,4 +1,4 @@
-"""The state of a program where it is stopped: registers, frames, and the instruction before."""
+"""The state of a stopped program: its registers, its frames, and the last instruction."""
 
 from collections.abc import Callable, Sequence
 from dataclasses import dataclass
@@ -17,15 +17,15 @@ from ..meanings.why import Explanation
 from .program import Line, Program
 from .unwinding import CallFrame
 
-ILLEGAL = 2  # the cause of a fault
+ILLEGAL = 2  # the cause of a fault at an illegal instruction
 
 
 @dataclass(frozen=True)
 class Frame:
-    """A frame of the client's call stack: a function, or a copy that is inlined in one.
+    """A frame of the client's call stack: a function, or an inlined copy of a function.
 
-    function: the machine's function; name: of the function or the inlined copy, "" if it isn't known
-    line: where the program is in it
+    call: the function, or the function that contains the copy; name: of the function or the copy, or "" if it is unknown
+    line: the source line at which the function or the copy is; None if it is unknown
     """
 
     call: CallFrame
@@ -35,9 +35,11 @@ class Frame:
 
 @dataclass(frozen=True)
 class LastInstruction:
-    """The instruction that was executed last, or that faulted.
+    """The instruction that was executed last, or that caused a fault.
 
-    executed: its elements, if it is a vector instruction; explanation: why registers have their values, if it was executed
+    pc: its address; text: its canonical text; before: the registers before it
+    executed: its operands and the outcomes of its elements; None if it isn't a vector instruction
+    explanation: the reasons for the values of registers after it; None if it caused a fault, or has no formula
     """
 
     pc: int
@@ -48,15 +50,15 @@ class LastInstruction:
 
 
 class Instant:
-    """A stopped program. After it has moved, or was changed, there is a new one."""
+    """The state of a program at a stop. After the program has moved or was changed, a new instant is necessary."""
 
     def __init__(self, program: Program, stop: Stop | None, is_due: Callable[[], bool]) -> None:
-        """stop: why it stopped by itself; is_due: whether the client wants long work to end"""
+        """stop: the stop if the program stopped by itself, otherwise None; is_due: returns whether the client wants long work to end"""
         self.program, self._stop, self._is_due = program, stop, is_due
 
     @cached_property
     def registers(self) -> Registers:
-        """All registers."""
+        """The scalar, vector and vector control registers."""
         return _registers(self.program.guest)
 
     @cached_property
@@ -73,7 +75,7 @@ class Instant:
 
     @cached_property
     def frames(self) -> Sequence[Frame]:
-        """The frames, the innermost first: of each function those of its inlined copies, and then its own."""
+        """The frames, the innermost first. The inlined copies around a function's next instruction come before the function itself."""
         return [frame for call in self.calls for frame in self._frames_of(call)]
 
     def _frames_of(self, call: CallFrame) -> list[Frame]:
@@ -92,7 +94,7 @@ class Instant:
 
     @cached_property
     def last(self) -> LastInstruction | None:
-        """The instruction that was executed last; None if there was none. Raises LabError."""
+        """The instruction that was executed last, or that caused a fault; None if none was executed. Raises LabError if it can't be found."""
         guest, stop = self.program.guest, self._stop
         if stop and stop.kind == "fault":
             return self._last(guest, self.registers, "illegal" if stop.cause == ILLEGAL else "fault")
@@ -100,7 +102,10 @@ class Instant:
             return self._last(earlier, _registers(earlier), "ran") if earlier else None
 
     def _last(self, earlier: Guest, before: Registers, end: End) -> LastInstruction:
-        """The instruction that was next at an earlier instant, or that is at a fault. Its word may have been overwritten since."""
+        """Return the instruction at the program counter of `earlier`, whose memory still has its word if the program has overwritten it.
+
+        earlier: the guest before the instruction, or the present guest after a fault; before: its registers; end: how the instruction ended
+        """
         guest, now, pc = self.program.guest, self.registers, earlier.pc
         word, text = earlier.word_at(pc)
         executed, explanation = None, None
@@ -116,7 +121,7 @@ class Instant:
 
 
 def _registers(guest: Guest) -> Registers:
-    """All registers of a guest; its place is taken up."""
+    """Return the registers of a guest, and update the guest's program counter."""
     scalars, control = guest.query("regs", ScalarRegisters), guest.query("vcsr", ControlRegisters)
     guest.pc = scalars.pc
     return Registers(scalars.x, control, bytearray(b"".join(guest.vectors())))

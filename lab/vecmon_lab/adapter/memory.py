@@ -13,12 +13,15 @@ from ..machine.answers import Memory, Refused
 from .program import Line, Program
 from .requests import BadArguments
 
-MAX_BYTES, MAX_INSTRUCTIONS = 1 << 20, 4096  # of one request
-_ADDRESSES = 1 << 48  # of memory
+MAX_BYTES, MAX_INSTRUCTIONS = 1 << 20, 4096  # that one request may have
+_ADDRESSES = 1 << 48  # the end of memory's addresses
 
 
 def read_memory(program: Program, address: int, count: int) -> dict[str, Any]:
-    """Return the bytes from an address up to the first page that isn't mapped."""
+    """Return the body of a response with `count` bytes from an address on, or with fewer if a page isn't mapped.
+
+    Raises BadArguments if the count is out of range.
+    """
     if not 0 <= count <= MAX_BYTES:
         raise BadArguments(f"count is 0 to {MAX_BYTES:,}")
     data = bytearray()
@@ -35,7 +38,12 @@ def read_memory(program: Program, address: int, count: int) -> dict[str, Any]:
 
 
 def write_memory(program: Program, address: int, text: str, is_partial: bool) -> int:
-    """Write bytes in base64 from an address on; return how many. Raises LabError, and then a part may be written."""
+    """Write bytes to memory from an address on, and return the number of bytes that were written.
+
+    text: the bytes in base64; is_partial: whether to write only the first bytes if the others can't be written
+
+    Raises LabError if the bytes can't be written; then some of them may have been written. Raises BadArguments if the text is invalid.
+    """
     try:
         data = base64.b64decode(text, validate=True)
     except binascii.Error as error:
@@ -58,9 +66,11 @@ def write_memory(program: Program, address: int, text: str, is_partial: bool) ->
 def disassemble(
     program: Program, start: int, count: int, line_fields: Callable[[Line], dict[str, Any]]
 ) -> list[dict[str, Any]]:
-    """Return a number of instructions from an address on.
+    """Return the rows of `count` instructions from the address `start` on. An address without memory has a row, too.
 
-    line_fields: returns the fields `line` and `location` of a line
+    line_fields: returns the fields `line` and `location` of a source line
+
+    Raises BadArguments if the count or the start is out of range.
     """
     if not 0 <= count <= MAX_INSTRUCTIONS:
         raise BadArguments(f"instructionCount is 0 to {MAX_INSTRUCTIONS:,}")

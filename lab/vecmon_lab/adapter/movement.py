@@ -1,4 +1,4 @@
-"""The program moves: it runs, is stepped by lines or instructions, or goes back."""
+"""Movements of a program: it runs, it is stepped by lines or instructions, or it goes back."""
 
 from collections.abc import Callable, Sequence
 from typing import Literal
@@ -12,27 +12,30 @@ StepKind = Literal["into", "over", "out"]
 
 
 class Movement:
-    """Moves a program.
+    """Moves a program forwards and back.
 
-    halt: the last one
+    halt: where the last movement ended; before the first movement, the entry
     """
 
     def __init__(self, halts: Halts, frames: Callable[[], Sequence[CallFrame]]) -> None:
-        """frames: returns the functions at the program's place, the innermost first"""
+        """frames: returns the call stack at the program counter, the innermost function first"""
         self.halt = Halt("entry")
         self._halts = halts
         self._forwards, self._backwards = Forwards(halts, frames), Backwards(halts, lambda: self.halt)
 
     def go(self) -> Halt:
-        """Run the program to a stop, a breakpoint whose condition holds, or an access to watched data."""
+        """Run the program until it stops by itself, meets a breakpoint whose condition holds, or accesses watched data. Return this halt."""
         return self._moved(self._forwards.go_on)
 
     def go_to(self, address: int) -> Halt:
-        """As `go`, also to an address."""
+        """Run the program as `go` does, but halt at `address` at the latest, with the reason `entry`."""
         return self._moved(lambda: self._forwards.run_to(address, 0) or Halt("entry"))
 
     def step(self, kind: StepKind, by_lines: bool) -> Halt:
-        """Step the program by a line, or by an instruction, into calls or over them; or out of the present function."""
+        """Step the program into calls, over calls, or out of the present function. Return the halt.
+
+        by_lines: whether a step ends at the next source line; otherwise it executes one instruction, or one call
+        """
         if kind == "out":
             return self._moved(lambda: self._forwards.step_out() or (self._forwards.to_line() if by_lines else None))
         return self._moved(
@@ -40,15 +43,21 @@ class Movement:
         )
 
     def back(self, by_lines: bool) -> Halt:
-        """Go back by a line, over calls, or by an instruction. Raises LabError."""
+        """Go back over one source line and the calls in it, or over one instruction. Return the halt. Raises LabError.
+
+        by_lines: whether to go back over a line
+        """
         return self._moved(self._backwards.by_line if by_lines else lambda: self._backwards.by_instructions(1))
 
     def back_to_halt(self) -> Halt:
-        """Go back to a breakpoint whose condition holds, to an access to watched data, or to the start. Raises LabError."""
+        """Go back to a breakpoint whose condition holds, to an access to watched data, or to the start. Return this halt. Raises LabError."""
         return self._moved(lambda: self._backwards.to_halt(frozenset()) or Halt("entry", text=START))
 
     def _moved(self, move: Callable[[], Halt | None]) -> Halt:
-        """The end of a movement, also where the client ends it."""
+        """Execute a movement, record where it ended, and return this halt.
+
+        move: returns the halt, or None if the movement was completed, which is the halt `step`; if it raises Paused, the halt is `pause`
+        """
         try:
             self.halt = move() or Halt("step")
         except Paused:

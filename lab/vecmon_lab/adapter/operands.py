@@ -11,7 +11,10 @@ NO_STEP = "no instruction was executed yet"
 
 
 def last_items(instant: Instant) -> list[tuple[str, str, VectorGroup | None]]:
-    """Rows about the last instruction: a name and a text, or an operand with its elements. Raises LabError."""
+    """Return the rows about the last instruction. Raises LabError if the state before it can't be found.
+
+    Each row has a name and a text, or else, with the name "" and the text "", an operand's register group.
+    """
     last = instant.last
     if last is None:
         return [("instruction", NO_STEP, None)]
@@ -30,7 +33,12 @@ def last_items(instant: Instant) -> list[tuple[str, str, VectorGroup | None]]:
 
 
 def why(instant: Instant, name: str, element: int | None) -> str:
-    """Why a register or an element has its value after the last instruction. Raises LabError."""
+    """Return the reason why a register or an element has its value after the last instruction.
+
+    name: the register's; element: the index of an element; None for a scalar register
+
+    Raises LabError if no instruction was executed, if it has no explanation, or if the register or element doesn't exist.
+    """
     last = instant.last
     if last is None or last.explanation is None:
         raise LabError(NO_STEP if last is None else f"{last.text} has changed nothing")
@@ -38,7 +46,7 @@ def why(instant: Instant, name: str, element: int | None) -> str:
 
 
 def _with_reasons(last: LastInstruction, group: VectorGroup) -> VectorGroup:
-    """The group of a destination with the reason for each element."""
+    """Return the group of a destination with the reason for each element in place of its outcome. Other groups are returned unchanged."""
     if not group.is_result or last.explanation is None:
         return group
     texts = dict(group.outcomes)
@@ -51,5 +59,5 @@ def _with_reasons(last: LastInstruction, group: VectorGroup) -> VectorGroup:
 
 
 def _text(parts: tuple[Part, ...]) -> str:
-    """A sentence or a formula, whose terms are registers."""
+    """Return a sentence or a formula as text. Its terms are written as the names of their registers."""
     return "".join(part if isinstance(part, str) else part.named(Notation()) for part in parts)

@@ -1,4 +1,4 @@
-"""A program that is debugged: its machine, symbols and source files, and its instants."""
+"""A program that is debugged: its machine, its symbols, its source files and its variables."""
 
 import argparse
 import contextlib
@@ -38,10 +38,10 @@ class Line(NamedTuple):
 
 
 class Program:
-    """A program on a machine of its own, until `close`.
+    """A program on its own machine, until `close` ends the machine.
 
     path: the image or source that was launched; image: the image that the machine has loaded
-    guest, timeline: the program, and its way forward and back
+    guest: the running program; timeline: moves the program forwards and back
     """
 
     def __init__(
@@ -52,10 +52,10 @@ class Program:
         advance: timeline.Report,
         note: Callable[[str], object],
     ) -> None:
-        """Build and load it. Raises LabError and OSError, and BadArguments for the options.
+        """Build and load the program. Raises LabError and OSError, and BadArguments for options that don't exist.
 
-        write: is given the program's output; report: calls that aren't supported
-        advance: is given the progress of long work; note: warnings about the program
+        write: called with the program's output; report: called with the address of a system call that isn't supported, and the reason
+        advance: called with the progress of long work; note: called with warnings about the program
         """
         self.path = pathlib.Path(launch.program).expanduser()
         self.image = _built(self.path, launch, note)
@@ -96,22 +96,22 @@ class Program:
         return self.guest.query("vcsr", ControlRegisters)
 
     def place(self, address: int) -> str:
-        """An address by the symbol before it, or its digits."""
+        """Return an address as text: relative to the symbol before it, such as `main+0x8`, or in digits if there is no symbol."""
         return self.symbols.place(address) or f"{address:#x}"
 
     def words(self, addresses: Iterable[int]) -> dict[int, Word]:
-        """The words at those addresses that are in memory."""
+        """Return the words at addresses, by address. Addresses without memory are left out."""
         pages = itertools.groupby(sorted({*addresses}), lambda address: address // PAGE_BYTES)
         return {word.address: word for _, page in pages for word in self.guest.words(page)}
 
     def line(self, address: int) -> Line | None:
-        """The line of an instruction, if it is known."""
+        """Return the source line of the instruction at an address; None if it is unknown."""
         name, _, number = self.symbols.line(address).rpartition(":")
         return Line(name, int(number)) if name else None
 
     @cached_property
     def stops(self) -> Mapping[str, Mapping[int, Sequence[int]]]:
-        """The addresses of breakpoints by file and line."""
+        """The addresses at which a breakpoint at a source line stops, by the file's name and the line's number."""
         found = dict[str, dict[int, Sequence[int]]]()
         for text, addresses in self.symbols.source.stops.items():
             file, _, number = text.rpartition(":")
@@ -120,15 +120,18 @@ class Program:
 
     @property
     def files(self) -> Sequence[str]:
-        """The names of source files that have instructions."""
+        """The names of the source files that have instructions, without their folders."""
         return sorted(self.stops)
 
     def show_at(self, path: pathlib.Path) -> None:
-        """Note by which path the client names a file."""
+        """Record the path by which the client names a source file."""
         self._shown[path.name] = path
 
     def path_of(self, file: str) -> pathlib.Path | None:
-        """The path of a source file, if it is there. That of the program has the links by which the client named it."""
+        """Return the path of the source file with a name; if it isn't found, the path by which the client names it, or None.
+
+        Symbolic links are resolved, except in the path of the launched source, which the client has named itself.
+        """
         if self.path.name == file and self.path.is_file():
             return self.path.absolute()
         named = self.symbols.source.files.get(file, pathlib.PurePath(file))
@@ -138,7 +141,7 @@ class Program:
 
     @cached_property
     def variables(self) -> Sequence[TypedVariable]:
-        """The variables of the sources, without those of the lab's runtime."""
+        """The variables of the source files, except those of the lab's runtime."""
         from elftools.elf.elffile import ELFFile
 
         with self.image.open("rb") as file:
@@ -146,17 +149,20 @@ class Program:
 
     @cached_property
     def call_frames(self) -> CallFrames:
-        """How to find the callers of functions."""
+        """The call frame information, by which the callers of functions are found."""
         return CallFrames(self.image)
 
 
 def _is_own(name: str) -> bool:
-    """Whether a source isn't of the lab's runtime."""
+    """Return whether a source file belongs to the program, not to the lab's runtime. name: its path"""
     return pathlib.PurePath(name).name not in _RUNTIME_FILES
 
 
 def _built(path: pathlib.Path, launch: Launch, note: Callable[[str], object]) -> pathlib.Path:
-    """The image of a program. Raises LabError and OSError."""
+    """Return the path of the program's image, which is built if `path` is a source. Raises LabError and OSError.
+
+    launch: has the compiler and its options; note: called with the compiler's warnings
+    """
     if launch.options is not None and launch.options not in [choice.name for choice in CHOICES]:
         raise BadArguments(f"options is one of {', '.join(choice.name for choice in CHOICES)}")
     if path.suffix == C_SUFFIX:
@@ -176,7 +182,7 @@ def _built(path: pathlib.Path, launch: Launch, note: Callable[[str], object]) ->
 
 
 def _list_mistakes(path: pathlib.Path) -> None:
-    """Raise SourceMistakes with all mistakes of an assembler source, if it has any: also those that only the machine refuses."""
+    """Raise SourceMistakes with all mistakes of an assembler source, including those that only the machine finds; return if there are none."""
     program = read_tried_source(read_own_source(path), find_program(), files_beside(path))
     if program.mistakes:
         raise SourceMistakes("\n".join(mistake.diagnostic(f"{path}") for mistake in program.mistakes))

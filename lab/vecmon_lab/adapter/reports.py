@@ -8,7 +8,7 @@ from .wire import Wire
 
 
 class Reports:
-    """The events of a session.
+    """Sends the events of a session to the client.
 
     shows_progress: whether the client shows the progress of long work
     """
@@ -17,34 +17,37 @@ class Reports:
         self.shows_progress = False
         self._wire = wire
         self._decoder = codecs.getincrementaldecoder("utf-8")("replace")
-        self._reported, self._progress = set[str](), 0
+        self._reported, self._progress = set[str](), 0  # the second is odd while the progress of work is shown
 
     def event(self, name: str, **body: Any) -> None:
         """Send an event."""
         self._wire.send("event", event=name, body=body)
 
     def output(self, text: str, category: str = "console") -> None:
-        """Show a text in the client's debug console."""
+        """Show a text in the client's debug console. category: the protocol's name of its kind, such as `stderr`"""
         if text:
             self.event("output", category=category, output=text)
 
     def write(self, data: bytes) -> None:
-        """Pass on what the program writes."""
+        """Show the program's output. data: in UTF-8; a character may be split between two calls"""
         self.output(self._decoder.decode(data), "stdout")
 
     def unsupported(self, place: str, sentence: str) -> None:
-        """Report a call that isn't supported, once."""
+        """Report a system call that isn't supported. Each sentence is reported only once for a program.
+
+        place: the address of the call, as text; sentence: the reason
+        """
         if sentence not in self._reported:
             self._reported.add(sentence)
             self.output(f"{place}: {sentence}\n", "stderr")
 
     def forget_program(self) -> None:
-        """Start anew, as for another program."""
+        """Reset the decoder of output and the list of reported sentences, for another program."""
         self._decoder.reset()
         self._reported.clear()
 
     def building(self, name: str, is_over: bool) -> None:
-        """Show that a program is built, or has been."""
+        """Show that the build of a program begins, or that it is over. name: the file name of the program"""
         if not self.shows_progress:
             return
         if is_over:
@@ -53,7 +56,7 @@ class Reports:
             self.event("progressStart", progressId="launch", title=f"Building {name}")
 
     def advance(self, advance: Advance) -> None:
-        """Show the progress of long work."""
+        """Show the progress of long work. The first call shows the work; `end_progress` hides it."""
         if not self.shows_progress:
             return
         share = {"percentage": 100 * advance.done // advance.whole} if advance.whole else {}
@@ -65,7 +68,7 @@ class Reports:
         self.event("progressUpdate", progressId=name, message=advance.amount, **share)
 
     def end_progress(self) -> None:
-        """End the progress that is shown."""
+        """Hide the work whose progress is shown, if there is any."""
         if self._progress % 2:
             self.event("progressEnd", progressId=f"work{self._progress}")
             self._progress += 1

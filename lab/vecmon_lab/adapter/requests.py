@@ -1,6 +1,6 @@
-"""The arguments of a client's requests, by the names that the Debug Adapter Protocol gives them, in the style of Python.
+"""The arguments of a client's requests, with the names of the Debug Adapter Protocol in Python's style: `frame_id` for `frameId`.
 
-Arguments that aren't known here are ignored, since clients add their own.
+Unknown arguments are ignored, since clients add their own.
 """
 
 import dataclasses
@@ -27,7 +27,7 @@ class NoArguments:
 
 @dataclass(frozen=True)
 class Initialize:
-    """Abilities of the client, and the number of its first line."""
+    """The abilities of the client, and whether it counts lines and columns from 1 or from 0."""
 
     lines_start_at_1: bool = True
     columns_start_at_1: bool = True
@@ -54,7 +54,7 @@ class Launch:
 
 @dataclass(frozen=True)
 class Source:
-    """A source file."""
+    """A source file. path: its path, or "" if the client sends only the name"""
 
     path: str = ""
     name: str = ""
@@ -62,7 +62,7 @@ class Source:
 
 @dataclass(frozen=True)
 class SourceBreakpoint:
-    """A breakpoint at a line."""
+    """A breakpoint at a line of a source. line: as the client counts"""
 
     line: int
     condition: str = ""
@@ -72,7 +72,7 @@ class SourceBreakpoint:
 
 @dataclass(frozen=True)
 class SetBreakpoints:
-    """All breakpoints of a source."""
+    """The breakpoints of a source, which replace all earlier ones."""
 
     source: Source
     breakpoints: tuple[SourceBreakpoint, ...] = ()
@@ -80,7 +80,7 @@ class SetBreakpoints:
 
 @dataclass(frozen=True)
 class BreakpointLocations:
-    """The lines of a source whose breakpoints are asked for."""
+    """A range of lines of a source, for a request of the lines that may have a breakpoint. end_line: the last line; None for one line"""
 
     source: Source
     line: int
@@ -98,14 +98,14 @@ class FunctionBreakpoint:
 
 @dataclass(frozen=True)
 class SetFunctionBreakpoints:
-    """All breakpoints at functions."""
+    """The breakpoints at functions, which replace all earlier ones."""
 
     breakpoints: tuple[FunctionBreakpoint, ...] = ()
 
 
 @dataclass(frozen=True)
 class InstructionBreakpoint:
-    """A breakpoint at an address."""
+    """A breakpoint at an address. instruction_reference: the address, as text; offset: bytes that are added to it"""
 
     instruction_reference: str
     offset: int = 0
@@ -115,14 +115,18 @@ class InstructionBreakpoint:
 
 @dataclass(frozen=True)
 class SetInstructionBreakpoints:
-    """All breakpoints at addresses."""
+    """The breakpoints at addresses, which replace all earlier ones."""
 
     breakpoints: tuple[InstructionBreakpoint, ...] = ()
 
 
 @dataclass(frozen=True)
 class DataBreakpointInfo:
-    """A variable, an element of memory, or an expression, whose data breakpoint is asked for."""
+    """The data that the client wants to watch, for a request of its address.
+
+    name: of a row, or an expression, or an address if `as_address` is true; variables_reference: the reference above the row, or 0
+    frame_id: the frame of the expression, or 0; bytes: the number of bytes; None for the data's own size
+    """
 
     name: str
     variables_reference: int = 0
@@ -133,7 +137,7 @@ class DataBreakpointInfo:
 
 @dataclass(frozen=True)
 class DataBreakpoint:
-    """A data breakpoint, by the identifier of `dataBreakpointInfo`."""
+    """A data breakpoint. data_id: the identifier of the data in a response to `dataBreakpointInfo`"""
 
     data_id: str
     access_type: Literal["read", "write", "readWrite"] = "write"
@@ -143,21 +147,21 @@ class DataBreakpoint:
 
 @dataclass(frozen=True)
 class SetDataBreakpoints:
-    """All data breakpoints."""
+    """The data breakpoints, which replace all earlier ones."""
 
     breakpoints: tuple[DataBreakpoint, ...] = ()
 
 
 @dataclass(frozen=True)
 class Resume:
-    """Arguments of requests that move the program."""
+    """The arguments of requests that step the program. granularity: whether a step is a source line or an instruction"""
 
     granularity: Granularity = "statement"
 
 
 @dataclass(frozen=True)
 class StackTrace:
-    """A range of frames; 0 levels for all."""
+    """A range of frames. start_frame: the index of the first one, 0 for the innermost; levels: the number of frames, 0 for all"""
 
     start_frame: int = 0
     levels: int = 0
@@ -165,21 +169,24 @@ class StackTrace:
 
 @dataclass(frozen=True)
 class Scopes:
-    """A frame."""
+    """The frame whose scopes are requested. frame_id: its number in the response to `stackTrace`"""
 
     frame_id: int
 
 
 @dataclass(frozen=True)
 class ValueFormat:
-    """How numbers are written."""
+    """How numbers are written. hex: whether only in hexadecimal"""
 
     hex: bool = False
 
 
 @dataclass(frozen=True)
 class Variables:
-    """The variables of a scope or of a variable, or a range of those that have numbers."""
+    """A request of the rows below a scope or a variable, or of a range of them.
+
+    variables_reference: of the scope or the variable; start: the index of the first row; count: the number of rows, 0 for all
+    """
 
     variables_reference: int
     start: int = 0
@@ -189,7 +196,7 @@ class Variables:
 
 @dataclass(frozen=True)
 class SetVariable:
-    """A new value of a variable."""
+    """A new value of a variable. variables_reference: of the scope or the variable above it; value: as the user typed it"""
 
     variables_reference: int
     name: str
@@ -199,7 +206,7 @@ class SetVariable:
 
 @dataclass(frozen=True)
 class Evaluate:
-    """An expression. context: where the client shows the result, as `hover`"""
+    """An expression. context: where the client shows the result, such as `hover`"""
 
     expression: str
     frame_id: int = 0
@@ -209,7 +216,7 @@ class Evaluate:
 
 @dataclass(frozen=True)
 class SetExpression:
-    """A new value of an expression."""
+    """A new value of an expression. value: as the user typed it"""
 
     expression: str
     value: str
@@ -219,7 +226,7 @@ class SetExpression:
 
 @dataclass(frozen=True)
 class Completions:
-    """A text in the debug console, which ends in a part of a name."""
+    """A text in the debug console that ends with the start of a name. column: of the caret, as the client counts"""
 
     text: str
     column: int
@@ -228,7 +235,7 @@ class Completions:
 
 @dataclass(frozen=True)
 class ReadMemory:
-    """Bytes of memory."""
+    """A range of memory. memory_reference: an address, as text; offset: bytes that are added to it; count: the number of bytes"""
 
     memory_reference: str
     count: int
@@ -237,7 +244,11 @@ class ReadMemory:
 
 @dataclass(frozen=True)
 class WriteMemory:
-    """Bytes for memory, in base64."""
+    """Bytes to write to memory.
+
+    memory_reference: an address, as text; offset: bytes that are added to it; data: the bytes in base64
+    allow_partial: whether to write only the first bytes if the others can't be written
+    """
 
     memory_reference: str
     data: str
@@ -247,7 +258,10 @@ class WriteMemory:
 
 @dataclass(frozen=True)
 class Disassemble:
-    """Instructions around an address."""
+    """A range of instructions around an address.
+
+    memory_reference: the address, as text; offset: bytes that are added to it; instruction_offset: instructions that are added to it
+    """
 
     memory_reference: str
     instruction_count: int
@@ -256,7 +270,10 @@ class Disassemble:
 
 
 def read_arguments(kind: type[Arguments], given: object) -> Arguments:
-    """Return the arguments of a request, or of a part of one. Raises BadArguments."""
+    """Read the arguments of a request, or an object in them. Raises BadArguments if they don't have the types of `kind`.
+
+    kind: a class of this module; given: the value in JSON
+    """
     if not isinstance(given, dict):
         raise BadArguments("the arguments are no object")
     values = dict[str, Any]()
@@ -271,12 +288,15 @@ def read_arguments(kind: type[Arguments], given: object) -> Arguments:
 
 
 def _name_in_json(name: str) -> str:
-    """The protocol's name of an argument: `linesStartAt1` for `lines_start_at_1`."""
+    """Return the protocol's name of an argument, such as `linesStartAt1` for `lines_start_at_1`."""
     return re.sub("_([a-z0-9])", lambda found: found[1].upper(), name)
 
 
 def _read(kind: Any, given: object, name: str) -> object:
-    """Return a value of a type. Raises BadArguments."""
+    """Return an argument's value. Raises BadArguments if it doesn't have the type `kind`.
+
+    given: the value in JSON; name: of the argument, for messages
+    """
     options: Sequence[Any] = get_args(kind)
     if get_origin(kind) is UnionType:
         return _read(options[0], given, name)

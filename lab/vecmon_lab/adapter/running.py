@@ -20,7 +20,7 @@ THREAD = 1
 class Running:
     """Moves the program, and reports where it has stopped.
 
-    is_free_running: whether the program may run for long
+    is_free_running: whether a movement that may take long is under way; false during a step
     """
 
     def __init__(self, debuggee: Debuggee, breakpoints: BreakpointRequests, client: Client) -> None:
@@ -31,7 +31,7 @@ class Running:
 
     @property
     def handlers(self) -> Handlers:
-        """The requests."""
+        """The handlers of these requests, by the request's name."""
         return {
             "launch": (Launch, self._launch),
             "configurationDone": (NoArguments, self._configuration_done),
@@ -53,7 +53,7 @@ class Running:
         return {"start": lambda: self._reports.event("initialized")}
 
     def _load(self, launch: Launch) -> None:
-        """Build and load a program. Raises LabError and OSError, and then the one before is as it was."""
+        """Build and load a program. If that raises LabError or OSError, the program that was loaded before is unchanged."""
         debuggee, reports, name = self._debuggee, self._reports, pathlib.Path(launch.program).name
         reports.building(name, False)
         try:
@@ -82,7 +82,7 @@ class Running:
         return {"start": self._begin}
 
     def _begin(self) -> None:
-        """Start a program that was loaded: it stops at its start, or runs."""
+        """Start the program that was loaded. It stops at its start if the client wants that; otherwise it runs."""
         program, movement, launch = self._debuggee.program, self._movement, self._debuggee.launch
         assert program and movement and launch
         if not launch.stop_on_entry or launch.no_debug:
@@ -99,12 +99,12 @@ class Running:
         return {"start": self._begin_again}
 
     def _begin_again(self) -> None:
-        """Start the program again, and report that to the client, for which the program was stopped."""
+        """Start the program again. First report that it goes on, since the client has seen it stopped."""
         self._reports.event("continued", threadId=THREAD, allThreadsContinued=True)
         self._begin()
 
     def _moving(self) -> Movement:
-        """The movement of a program that may move now. Raises LabError."""
+        """Return the object that moves the program. Raises LabError if the program is running, or if `configurationDone` hasn't come yet."""
         self._debuggee.stopped()
         assert self._movement
         if not self._is_configured:
@@ -112,11 +112,14 @@ class Running:
         return self._movement
 
     def _start(self, move: Callable[[], Halt]) -> Body:
-        """A body, after which the program moves by a step."""
+        """Return the body of a response after which the program moves by a step. move: executes the step, and returns the halt"""
         return {"start": lambda: self._move(move, is_free=False)}
 
     def _move(self, move: Callable[[], Halt], is_free: bool = True) -> None:
-        """Move the program, and report where it has stopped. is_free: whether it may run for long"""
+        """Move the program, and report where it has stopped.
+
+        move: executes the movement, and returns the halt; is_free: whether the movement may take long
+        """
         self._debuggee.is_running, self.is_free_running, self._debuggee.shown = True, is_free, None
         try:
             halt = move()
@@ -129,7 +132,7 @@ class Running:
         self._stopped(halt)
 
     def _stopped(self, halt: Halt) -> None:
-        """Report where the program has stopped. One that is to end at its exit ends."""
+        """Report where the program has stopped. If it is at its exit and needn't stop there, end the session instead."""
         program, launch = self._debuggee.program, self._debuggee.launch
         assert program and launch
         self._debuggee.shown = Shown(Instant(program, halt.stop, self._debuggee.wants_stop))
@@ -146,7 +149,7 @@ class Running:
         self._reports.event("stopped", reason=halt.reason, threadId=THREAD, allThreadsStopped=True, **extra)
 
     def _exit(self, halt: Halt) -> None:
-        """End the program at its exit."""
+        """Report the program's exit status, and the end of the session."""
         self._reports.event("exited", exitCode=halt.stop.number if halt.stop and halt.stop.kind == "exit" else 0)
         self._reports.event("terminated")
 
@@ -181,7 +184,10 @@ class Running:
 
 
 def _main(program: Program) -> int:
-    """Where a breakpoint in `main` comes first, behind the runtime; 0 if it has no lines or the program starts with it."""
+    """Return the address of the first breakpoint of `main`, so that a launch runs through the runtime before it.
+
+    Return 0 if `main` has no source lines, or if the program counter is at this address.
+    """
     entries = program.symbols.source.functions.get("main", {})
     first = min((address for each in entries.values() for address in each), default=program.pc)
     return 0 if first == program.pc else first

@@ -1,4 +1,4 @@
-"""A session of a client: its requests go to those that answer them, and it is asked while the program moves."""
+"""A session with a client. It passes the client's requests to their handlers, also during a movement of the program."""
 
 from .. import LabError
 from .breakpoint_requests import BreakpointRequests
@@ -39,23 +39,23 @@ STOPPING = ("pause", "cancel", "disconnect", "terminate", "restart")
 """Requests that end a movement of the program."""
 
 MEANWHILE = ("setBreakpoints", "setFunctionBreakpoints", "setInstructionBreakpoints", "setDataBreakpoints", "threads")
-"""Requests that are answered during a step, too; others wait for its end."""
+"""Requests that are answered during a step. All requests except these and those of STOPPING wait for its end."""
 
 STARTING = ("launch", "attach")
-"""Requests whose failure ends the debugging, as no program is there."""
+"""Requests whose failure ends the session, since there is no program."""
 
 REST_SECONDS = 3.0
-"""How long the client may be silent after a failed launch, until the session ends without its `disconnect`."""
+"""Time after a failed launch, in seconds, after which the session ends if the client sends no request, such as `disconnect`."""
 
 NO_ATTACH = "there is no running program to attach to: launch one, with the path of a source or an image in `program`"
 
 
 class Session:
-    """A session with one client, up to its end."""
+    """A session with one client, from its first request to its last."""
 
     def __init__(self, wire: Wire) -> None:
         self._wire, self._is_open, self._is_initialized = wire, True, False
-        self._has_failed = False  # whether a launch has
+        self._has_failed = False  # whether a launch has failed
         self._reports = Reports(wire)
         self._debuggee = Debuggee(self._reports, self.wants_stop)
         breakpoints = BreakpointRequests(self._debuggee)
@@ -63,16 +63,19 @@ class Session:
         own: Handlers = {
             "initialize": (Initialize, self._initialize),
             "disconnect": (NoArguments, self._disconnect),
-            "cancel": (NoArguments, lambda _: {}),  # a movement has ended already, as for all of STOPPING
+            "cancel": (
+                NoArguments,
+                lambda _: {},
+            ),  # the request has ended the movement already, as each of STOPPING does
             "pause": (NoArguments, lambda _: {}),
         }
         parts = (own, self._running.handlers, breakpoints.handlers, Inspection(self._debuggee).handlers)
         self._handlers: Handlers = {name: handler for part in parts for name, handler in part.items()}
 
     def serve(self) -> None:
-        """Answer requests until the client ends the session or has gone, or is silent after a launch that failed.
+        """Answer requests until the client ends the session, has gone, or is silent after a failed launch.
 
-        Raises LabError for input that has no requests.
+        Raises LabError for a message that isn't a request.
         """
         try:
             while self._is_open:
@@ -84,16 +87,16 @@ class Session:
         finally:
             self._debuggee.close()
 
-    # A moving program asks these (`Client`)
+    # The methods of `Client`, which a movement of the program calls
 
     def has_requests(self) -> bool:
-        """Whether the client has sent something that is answered while the program moves, or has gone."""
+        """Return whether the client has sent a request that is answered during the present movement, or has gone."""
         return any(self._is_urgent(each) for each in self._wire.waiting()) or self._wire.has_ended
 
     def is_stopping(self) -> bool:
-        """Answer what a moving program can; return whether the client wants it to stop, or has gone.
+        """Answer the requests that are answered during the present movement. Return whether the client wants it to end, or has gone.
 
-        Requests that end it are answered once it is stopped, but `pause` before.
+        Of the requests that end a movement, `pause` is answered here, and the others after the end.
         """
         while urgent := [each for each in self._wire.waiting() if self._is_urgent(each)]:
             if any(each["command"] in STOPPING for each in urgent):
@@ -107,17 +110,20 @@ class Session:
         return self._wire.has_ended
 
     def wants_stop(self) -> bool:
-        """Whether the client wants long work to end, or has gone; nothing is answered."""
+        """Return whether the client wants long work to end, or has gone. No request is answered."""
         return any(each["command"] in STOPPING for each in self._wire.waiting()) or self._wire.has_ended
 
     def _is_urgent(self, message: Message) -> bool:
-        """Whether a request is answered while the program moves: of a step, which ends soon, only some are."""
+        """Return whether a request is answered during the present movement, or ends it.
+
+        A step is short, so during a step this holds only for the requests in STOPPING and MEANWHILE.
+        """
         return self._running.is_free_running or message["command"] in (*STOPPING, *MEANWHILE)
 
     # Requests
 
     def _answer(self, message: Message) -> None:
-        """Answer a request, and do what it starts."""
+        """Answer a request, and then call the function `start` of the response's body, if it has one."""
         command, fields = message["command"], {"request_seq": message["seq"], "command": message["command"]}
         try:
             if not self._is_initialized and command not in ("initialize", "disconnect"):
@@ -137,9 +143,10 @@ class Session:
             start()
 
     def _refuse(self, command: str, text: str, fields: Message) -> None:
-        """Report to the client why a request fails. Clients that show no response see the output of a build that fails.
+        """Send the response to a request that failed. fields: the request's number and command
 
-        If there is no program then, the debugging is over, and the client is expected to disconnect.
+        After a failed launch the reason is also sent as output, since some clients don't show it from the response. If there is no program, the
+        session is over, and the client is expected to send `disconnect`.
         """
         if command in (*STARTING, "restart"):
             self._reports.output(f"{text}\n", "stderr")
@@ -165,7 +172,7 @@ class Session:
 
 
 def _text_of(error: Exception) -> str:
-    """What is wrong, for the client."""
+    """Return the text of an error for the client."""
     if isinstance(error, OSError) and error.filename:
         return f"{error.filename}: {error.strerror}"
     return str(error)

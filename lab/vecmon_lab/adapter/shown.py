@@ -1,4 +1,4 @@
-"""What a client is shown of a stopped program, with the numbers by which it asks for more."""
+"""The values of a stopped program that a client is shown, and the numbers by which it requests the rows below a value."""
 
 import re
 from collections.abc import Sequence
@@ -18,7 +18,11 @@ _WORD = re.compile(r"[\w.$]*$")
 
 @dataclass(frozen=True)
 class _Reference:
-    """The path behind a number of the client's: a scope or an expression of a frame, and names of rows below it."""
+    """The scope or the value that a `variablesReference` of the client denotes.
+
+    frame: the number of its frame; root: the name of a scope, or an expression; is_scope: whether `root` is a scope
+    path: the names of the rows that lead from `root` to the value, from the outermost row on
+    """
 
     frame: int
     root: str
@@ -27,22 +31,28 @@ class _Reference:
 
 
 class Shown:
-    """The rows of an instant. The client's numbers remain the same if it changes the program."""
+    """The rows that the client is shown of an instant.
+
+    When the client changes the program, the numbers of its references stay the same (`renewed`).
+    """
 
     def __init__(self, instant: Instant, references: Sequence[_Reference] = ()) -> None:
         self.instant = instant
         self._references = [*references]
 
     def renewed(self, instant: Instant) -> "Shown":
-        """Return these references for a program that the client has changed, at the same place."""
+        """Return the rows of a new instant with the same references, after the client has changed the program."""
         return Shown(instant, self._references)
 
     def scopes(self, frame: int) -> list[dict[str, Any]]:
-        """The scopes of a frame by its number. Raises LabError."""
+        """Return the scopes of the frame with a number. Raises LabError if there is no such frame."""
         return [self._scope(frame, each) for each in scopes_of(self.instant, self._frame(frame))]
 
     def variables(self, wanted: Variables) -> list[dict[str, Any]]:
-        """The rows of a reference. Raises LabError."""
+        """Return the rows below a reference, in the protocol's form.
+
+        wanted: the reference, and the range of the rows. Raises LabError if the reference is unknown, or the range is negative.
+        """
         reference = self._reference(wanted.variables_reference)
         if min(wanted.start, wanted.count) < 0:
             raise LabError("start and count aren't negative")
@@ -50,24 +60,27 @@ class Shown:
         return [self._variable(each, reference) for each in rows]
 
     def set_variable(self, wanted: SetVariable) -> None:
-        """Give a row a new value. Raises LabError."""
+        """Set the value of a row below a reference. Raises LabError if that isn't possible."""
         item = self._row(self._reference(wanted.variables_reference), wanted.name, False)
         if item.change is None:
             raise LabError(f"{wanted.name} can't be changed")
         item.change(wanted.value)
 
     def value_again(self, number: int, name: str, form: ValueFormat) -> dict[str, Any]:
-        """The value of a row, after a change. Raises LabError."""
+        """Return the value of a row, in the protocol's form, after a change. Raises LabError if there is no such row.
+
+        number: of the reference above the row; name: the row's; form: how numbers are written
+        """
         reference = self._reference(number)
         shown = self._variable(self._row(reference, name, form.hex), reference)
         return {key: shown[key] for key in ("value", "variablesReference", "memoryReference") if key in shown}
 
     def set_expression(self, wanted: SetExpression) -> None:
-        """Give an expression a new value. Raises LabError."""
+        """Set the value of an expression. Raises LabError if that isn't possible."""
         evaluation.set_expression(self.instant, self._frame(wanted.frame_id), wanted.expression, wanted.value)
 
     def evaluate(self, wanted: Evaluate) -> dict[str, Any]:
-        """The value of an expression. Raises LabError."""
+        """Return the value of an expression, in the protocol's form. Raises LabError if it can't be evaluated."""
         frame = self._frame(wanted.frame_id)
         item = evaluation.evaluate(self.instant, frame, wanted.expression, wanted.context, wanted.format.hex)
         reference = _Reference(wanted.frame_id, wanted.expression, False)
@@ -76,11 +89,11 @@ class Shown:
         return {"result": item.value} | {key: shown[key] for key in keys if key in shown}
 
     def number(self, expression: str) -> int:
-        """The number of an expression in the innermost frame. Raises LabError."""
+        """Return the number that an expression has in the innermost frame. Raises LabError if it can't be evaluated."""
         return expressions.evaluate(expression, evaluation.FrameNames(self.instant, self._frame(0))).number
 
     def filled_in(self, text: str) -> str:
-        """A text with values in place of the expressions in braces."""
+        """Return a text in which each expression in braces is replaced by its value, or by the reason why it has none."""
 
         def value(found: re.Match[str]) -> str:
             try:
@@ -91,7 +104,10 @@ class Shown:
         return _EXPRESSION.sub(value, text)
 
     def completions(self, wanted: Completions, starts_at_1: bool) -> list[dict[str, Any]]:
-        """The names that complete a text at a column. Raises LabError."""
+        """Return the names that complete a text at a column. Raises LabError if the frame is unknown.
+
+        starts_at_1: whether the client counts columns from 1, not from 0
+        """
         before = wanted.text[: max(0, wanted.column - starts_at_1)]
         found = _WORD.search(before)
         start = found[0] if found else ""
@@ -100,18 +116,21 @@ class Shown:
         return [{"label": name, **place} for name in names]
 
     def place_of(self, number: int, name: str) -> tuple[int, int] | None:
-        """The address and the number of bytes of a row in memory; None for another one. Raises LabError."""
+        """Return the address and the number of bytes of a row; None if the row isn't in memory. Raises LabError if there is no such row.
+
+        number: of the reference above the row; name: the row's
+        """
         return self._row(self._reference(number), name, False).place
 
     def place_of_expression(self, frame: int, text: str) -> tuple[int, int] | None:
-        """Return the address and the number of bytes of an expression in memory; None if it isn't there, or has no value."""
+        """Return the address and the number of bytes of an expression; None if it isn't in memory, or can't be evaluated."""
         try:
             return evaluation.evaluate(self.instant, self._frame(frame), text, "", False).place
         except LabError:
             return None
 
     def _frame(self, number: int) -> Frame:
-        """A frame by its number, from 1; 0 is the innermost one. Raises LabError."""
+        """Return the frame with a number: 1 is the innermost frame, and so is 0, for a request without a frame. Raises LabError."""
         frames = self.instant.frames
         if not 0 <= number <= len(frames):
             raise LabError(f"there is no frame {number}")
@@ -125,7 +144,7 @@ class Shown:
         return self._references[number - 1]
 
     def _number(self, reference: _Reference) -> int:
-        """The number of a reference, by which the client asks for its rows."""
+        """Return the number that the client uses for a reference. A new reference gets the next number."""
         if reference not in self._references:
             self._references.append(reference)
         return self._references.index(reference) + 1
@@ -136,7 +155,10 @@ class Shown:
         return {"name": scope.name, "variablesReference": number, "expensive": scope.is_costly, **hint}
 
     def _variable(self, item: Item, parent: _Reference, is_root: bool = False) -> dict[str, Any]:
-        """A row as the client has it."""
+        """Return a row in the protocol's form. If there are rows below it, it has the number of a reference.
+
+        parent: the reference above the row; is_root: whether the row is the expression of `parent` itself
+        """
         shown: dict[str, Any] = {"name": item.name, "value": item.value, "variablesReference": 0}
         shown |= {"type": item.type} if item.type else {}
         shown |= {"evaluateName": item.expression} if item.expression else {}
@@ -150,7 +172,7 @@ class Shown:
         return shown
 
     def _rows(self, reference: _Reference, start: int, count: int, is_hex: bool) -> list[Item]:
-        """The rows of a reference, from a number on; all others if the count is 0."""
+        """Return `count` rows below a reference, from the row `start` on; if `count` is 0, all rows from there on."""
         frame = self._frame(reference.frame)
         if reference.is_scope:
             scope = next((each for each in scopes_of(self.instant, frame) if each.name == reference.root), None)
@@ -162,11 +184,14 @@ class Shown:
         return rows(start, count, is_hex) if rows else []
 
     def _row(self, reference: _Reference, name: str, is_hex: bool) -> Item:
-        """The row of a name below a reference. Raises LabError."""
+        """Return the row with a name below a reference. Raises LabError if there is none."""
         return self._named(lambda start, count, is_hex: self._rows(reference, start, count, is_hex), name, is_hex)
 
     def _named(self, rows: Any, name: str, is_hex: bool) -> Item:
-        """The row of a name. Raises LabError."""
+        """Return the row with a name, such as `x` or `[3]`. Raises LabError if there is none.
+
+        rows: returns rows, as `Item.children` does
+        """
         found = _INDEX.fullmatch(name)
         own: list[Item] = rows(int(found[1]), 1, is_hex) if found else rows(0, 0, is_hex)
         for item in own:

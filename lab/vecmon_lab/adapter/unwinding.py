@@ -1,4 +1,4 @@
-"""Callers of functions, by call frame information (DWARF 4, section 6.4), or by the return address in ra."""
+"""Callers of functions, found by call frame information (DWARF 4, section 6.4) or by the return address in ra."""
 
 import io
 import pathlib
@@ -13,11 +13,11 @@ from ..machine.start_state import RETURN
 
 MAX_FRAMES = 256
 RA, SP = 1, 2  # numbers of registers
-_COMMON = 0xFFFFFFFF  # in an entry that others name
+_COMMON = 0xFFFFFFFF  # the identifier of a common information entry
 _SAVED = (2, 3, 4, 8, 9, *range(18, 28))  # sp, gp, tp and s0 to s11, which a function preserves
 
 Registers = Sequence[int | None]
-"""x0 to x31 in a function; None for a value that isn't known, as a function that it calls may have changed it."""
+"""The values of x0 to x31 in a function. A value is None if it is unknown, since a called function may have changed it."""
 
 Peek = Callable[[int], int | None]
 """Returns the 8 bytes at an address as a number; None if they can't be read."""
@@ -25,11 +25,12 @@ Peek = Callable[[int], int | None]
 
 @dataclass(frozen=True)
 class CallFrame:
-    """A function that is executing, or that waits for one that it has called.
+    """A function that is executing, or that waits for the return of a function that it has called.
 
-    address: of the next instruction, or where the call returns to; registers: as they are there
-    stack: the stack pointer after it returns (the canonical frame address), if it is known
-    is_innermost: whether it is executing
+    address: of the function's next instruction; in a waiting function, the return address of the call
+    registers: the values of x0 to x31 in the function
+    stack: the stack pointer after the function has returned (the canonical frame address); None if it is unknown
+    is_innermost: whether the function is executing
     """
 
     address: int
@@ -39,7 +40,7 @@ class CallFrame:
 
     @property
     def inside(self) -> int:
-        """An address of the instruction that executes, or that calls."""
+        """An address inside the instruction that executes next, or inside the call for whose return the function waits."""
         return self.address if self.is_innermost else self.address - 1
 
 
@@ -50,9 +51,9 @@ class CallFrames:
         self._image = image
 
     def walk(self, pc: int, x: Sequence[int], peek: Peek, word_at: Callable[[int], int]) -> list[CallFrame]:
-        """Return the functions from the innermost one outwards, by the registers at the program counter.
+        """Return the call stack, the innermost function first, with at most MAX_FRAMES functions.
 
-        word_at: returns the word at an address, or 0
+        pc, x: the program counter and the values of x0 to x31; word_at: returns the word at an address, or 0 without memory
         """
         found, address, registers = list[CallFrame](), pc, list[int | None](x)
         while len(found) < MAX_FRAMES:
@@ -68,11 +69,14 @@ class CallFrames:
         return found
 
     def covers(self, address: int) -> bool:
-        """Whether the image says how to find the caller of the function that has an address."""
+        """Return whether the image has call frame information for the function at an address."""
         return self._row(address) is not None
 
     def _caller(self, row: "_Row", registers: Registers, stack: int, peek: Peek) -> list[int | None] | None:
-        """The registers of the caller, with the address to which the function returns in ra; None in the outermost function."""
+        """Return the registers of the caller. The value of ra is the address to which the function returns.
+
+        row: the rules at the function's present address; registers: of the function; stack: the canonical frame address
+        """
         before: list[int | None] = [registers[number] if number in _SAVED else None for number in range(32)]
         before[0], before[SP], before[RA] = 0, stack, registers[RA]
         for number, rule in row.rules.items():
@@ -81,7 +85,7 @@ class CallFrames:
         return before
 
     def _row(self, address: int) -> "_Row | None":
-        """The rules at an address."""
+        """Return the rules at an address; None if the image has no call frame information for it."""
         for first, end, rows in self._entries:
             if first <= address < end:
                 return next((row for row in reversed(rows) if row.first <= address), None)
@@ -89,7 +93,7 @@ class CallFrames:
 
     @cached_property
     def _entries(self) -> list[tuple[int, int, list["_Row"]]]:
-        """The ranges of functions with their rows of rules; none where the data is damaged."""
+        """The first address of each function, the address after its last one, and its rows of rules. Functions after damaged data are missing."""
         from elftools.dwarf.callframe import FDE, CallFrameInfo
         from elftools.elf.elffile import ELFFile
 
@@ -109,16 +113,16 @@ class CallFrames:
                     if isinstance(entry, FDE):
                         first, size = entry.header["initial_location"], entry.header["address_range"]
                         found.append((first, first + size, _rows(entry, debug.structs)))
-            except Exception:  # pylint: disable=broad-except  # damaged data makes pyelftools raise what its parts do
+            except Exception:  # pylint: disable=broad-except  # damaged data can make pyelftools raise any exception
                 pass
         return found
 
 
 def with_older_headers(data: bytes) -> bytes:
-    """A section `.debug_frame` whose common entries of version 4 are of version 3, which pyelftools 0.29 reads in their place.
+    """Return a section `.debug_frame` in which common information entries of version 4 are replaced by those of version 3.
 
-    Version 4 has the sizes of addresses and segments behind the augmentation, a byte each. In place of them two operations that do nothing
-    are at the end of the entry, so that its length remains the same.
+    The reason is that pyelftools 0.29 reads entries of version 4 as if they had version 3. In version 4, two bytes with the sizes of addresses
+    and segments follow the augmentation. They are removed, and two DW_CFA_nop are added at the end, so that the entry keeps its length.
     """
     changed, at = bytearray(data), 0
     while at + 9 <= len(data):
@@ -133,10 +137,11 @@ def with_older_headers(data: bytes) -> bytes:
 
 @dataclass(frozen=True)
 class _Row:
-    """Rules from an address on.
+    """The rules of a function from an address on.
 
-    register, offset: the canonical frame address is their sum; register is None if it isn't one
-    rules: how to restore each register, as pyelftools has them
+    first: the address from which the rules hold, up to the next row
+    register, offset: their sum is the canonical frame address; register is None if the address isn't such a sum
+    rules: how to restore each register of the caller, by its number, in pyelftools' form
     """
 
     first: int
@@ -146,7 +151,7 @@ class _Row:
 
 
 def _rows(entry: Any, structs: Any) -> list[_Row]:
-    """The rows of a function's entry, in rising order. One without instructions has those of the common entry."""
+    """Return the rows of a function's entry, by rising address. The first row has the rules of the common information entry."""
     first = entry.header["initial_location"]
     common = [{**row, "pc": first} for row in entry.cie.get_decoded().table[-1:]]
     own = [row for row in entry.get_decoded().table if row.get("pc") is not None]
@@ -154,7 +159,7 @@ def _rows(entry: Any, structs: Any) -> list[_Row]:
 
 
 def _row(row: Mapping[Any, Any], structs: Any) -> _Row:
-    """A row, by pyelftools' one."""
+    """Return a row of rules from pyelftools' form of it. structs: the format of the debug data"""
     rules = {number: rule for number, rule in row.items() if isinstance(number, int)}
     rule = row["cfa"]
     if rule.expr is None:
@@ -170,13 +175,16 @@ def _row(row: Mapping[Any, Any], structs: Any) -> _Row:
 
 
 def _stack_of(row: _Row, registers: Registers) -> int | None:
-    """The canonical frame address."""
+    """Return the canonical frame address by a row of rules; None if it is unknown."""
     base = registers[row.register] if row.register is not None else None
     return None if base is None else base + row.offset & (1 << 64) - 1
 
 
 def _restored(rule: Any, registers: Registers, stack: int, now: int | None, peek: Peek) -> int | None:
-    """The caller's value of a register. now: its value in the function"""
+    """Return the caller's value of a register; None if it is unknown.
+
+    rule: how to restore it; registers: of the function; stack: the canonical frame address; now: the register's value in the function
+    """
     match rule.type, rule.arg:
         case "OFFSET", int(offset):
             return peek(stack + offset)
@@ -190,9 +198,9 @@ def _restored(rule: Any, registers: Registers, stack: int, now: int | None, peek
 
 
 def _caller_in_register(pc: int, x: Sequence[int], word_at: Callable[[int], int]) -> list[int | None] | None:
-    """The registers of the caller of a function without call frame information, which is known while ra has the address.
+    """Return the registers of the caller of a function without call frame information, if ra has the function's return address.
 
-    None if the instruction before that address doesn't call this code: then the address is an older one.
+    Return None if the instruction before the address in ra isn't a call of the present code. Then ra may be left over from another call.
     """
     back = x[RA]
     if back % 4 or not is_call(word_at(back - 4)):

@@ -25,11 +25,12 @@ STATE, VECTORS, LAST = "Vector state", "Vector registers", "Last instruction"
 class Item:
     """A row that a client shows.
 
-    name, value, type: as texts; expression: that evaluates to it, or ""
-    children: returns the rows below it, from a number on, and at most this number of them; None if there are none
-    count: of these rows, if they have numbers as names
-    address: where the client shows memory: of its bytes, or that it points to; None for none
-    change: gives it the number of a text; None for what can't be changed
+    name, value, type: as texts; expression: an expression with this value, or ""
+    children: returns the rows below it; None if there are none. Its arguments are the index of the first row, the number of rows (0 for all),
+        and whether numbers are written only in hexadecimal.
+    count: the number of rows below it if their names are indices; otherwise 0
+    address: of the memory that the client shows for the row: its own bytes, or those that a pointer points to; None if there are none
+    change: sets the value to the number in a text; None if the value can't be changed
     place: its address and number of bytes; None if it isn't in memory
     """
 
@@ -46,7 +47,11 @@ class Item:
 
 @dataclass(frozen=True)
 class Scope:
-    """A scope of a frame. is_costly: whether it takes time to show"""
+    """A scope of a frame.
+
+    hint: the kind of the scope in the protocol's words, or ""; items: returns its rows, as `Item.children` does
+    is_costly: whether it takes time to read, so that clients read it only if the user opens it
+    """
 
     name: str
     hint: str
@@ -55,7 +60,7 @@ class Scope:
 
 
 def scopes_of(instant: Instant, frame: Frame) -> list[Scope]:
-    """The scopes of a frame. Vector registers are those of the innermost function: no function preserves them for another one."""
+    """Return the scopes of a frame. Only the innermost frame has vector registers, since a function doesn't preserve them for its caller."""
     found = list[Scope]()
     own, shared = c_variables(instant, frame)
     if instant.program.variables:
@@ -74,7 +79,7 @@ def scopes_of(instant: Instant, frame: Frame) -> list[Scope]:
 
 
 def _all(make: Callable[[bool], list[Item]]) -> Callable[[int, int, bool], list[Item]]:
-    """Rows of a scope, which have no numbers."""
+    """Return a function that returns a range of a scope's rows. make: returns all of them; its argument is whether numbers are hexadecimal"""
     return lambda start, count, is_hex: make(is_hex)[start : start + count if count else None]
 
 
@@ -86,7 +91,7 @@ def send(guest: Guest, *commands: str) -> None:
 
 
 def _scalars(instant: Instant, frame: Frame, is_hex: bool) -> Iterator[Item]:
-    """The program counter and the scalar registers, by both names."""
+    """Yield the rows of the program counter and of the scalar registers, each with both of its names, such as `x10/a0`."""
     guest, pc = instant.program.guest, frame.call.address
 
     def set_pc(text: str) -> None:
@@ -114,12 +119,12 @@ def _mapped(guest: Guest, values: Sequence[int]) -> set[int]:
 
 
 def set_scalar(guest: Guest, number: int, text: str) -> None:
-    """Set a scalar register. Raises LabError."""
+    """Set the scalar register with a number to the number in a text. Raises LabError."""
     send(guest, f"set x{number} {read_number(text, 64):x}")
 
 
 def _vector_state(instant: Instant) -> Iterator[Item]:
-    """The vector type in words, and the other control registers."""
+    """Yield the rows of the vector type, the other vector control registers, the policy, and the mask in v0."""
     control, policy = instant.registers.control, instant.program.guest.session.policy[instant.program.guest.user]
     yield Item("vtype", f"{vtype_text(control.vtype)}  ({control.vtype:#x})", expression="vtype")
     yield Item("vl", f"{control.vl}  (of {control.vlmax})", expression="vl")
@@ -134,7 +139,7 @@ def _vector_state(instant: Instant) -> Iterator[Item]:
 
 
 def group_item(group: VectorGroup, is_hex: bool) -> Item:
-    """A group of vector registers, with its elements below it."""
+    """Return the row of a group of vector registers, with the rows of its elements below it."""
 
     def elements(start: int, count: int, is_hex: bool) -> list[Item]:
         stop = min(start + count if count else len(group.values), len(group.values))
@@ -144,7 +149,7 @@ def group_item(group: VectorGroup, is_hex: bool) -> Item:
 
 
 def _element_item(group: VectorGroup, index: int, is_hex: bool) -> Item:
-    """An element, with its outcome in the last instruction or its place in the tail."""
+    """Return the row of an element, with its outcome in the last instruction, or that it is in the tail."""
     value, outcome = number_text(group.values[index], group.width, is_hex), group.outcomes.get(index, "")
     change = functools.partial(group.change, index) if group.change else None
     text = f"{value}  {outcome}".rstrip()
@@ -152,7 +157,7 @@ def _element_item(group: VectorGroup, index: int, is_hex: bool) -> Item:
 
 
 def variable_item(variable: CVariable, is_hex: bool) -> Item:
-    """A variable of C; below it the elements of an array, the fields of a structure, or what a pointer points to."""
+    """Return the row of a C variable. Below it are the elements of an array, the fields of a structure, or the target of a pointer."""
 
     def elements(start: int, count: int, is_hex: bool) -> list[Item]:
         return [variable_item(each, is_hex) for each in variable.elements(start, count)]
@@ -183,6 +188,6 @@ def variable_item(variable: CVariable, is_hex: bool) -> Item:
 
 
 def _last(instant: Instant, is_hex: bool) -> list[Item]:
-    """The instruction that was executed last, its meaning, and its operands with the reason for each element."""
+    """Return the rows about the instruction that was executed last: its meaning, and its operands with the reason for each element."""
     rows: Sequence[tuple[str, str, VectorGroup | None]] = last_items(instant)
     return [group_item(group, is_hex) if group else Item(name, text) for name, text, group in rows]

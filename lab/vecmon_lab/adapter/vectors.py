@@ -1,4 +1,4 @@
-"""Groups of vector registers by the vector type, and the elements of operands."""
+"""Groups of vector registers under the vector type, and the register groups of operands."""
 
 import functools
 from collections.abc import Callable, Mapping, Sequence
@@ -23,11 +23,12 @@ _SHOWN = 16  # elements in the text of a group
 class VectorGroup:
     """Vector registers whose elements are numbered as one group.
 
-    name: as `v8`, or `v8-v11`; expression: the first register; type: of the elements, in words
-    width: of an element in bits; values: unsigned
-    outcomes: by element, how it took part in the last instruction, or that it is in the tail
-    change: gives an element the number of a text; None if it can't be changed
-    is_result: whether it is the destination of the last instruction
+    name: the registers, such as `v8` or `v8-v11`, for an operand after its role; expression: the name of the first register
+    type: the type of the elements, as a text for the user
+    width: of an element, in bits; values: of the elements, unsigned
+    outcomes: the text of an element's outcome in the last instruction, or that the element is in the tail, by the element's index
+    change: sets the element of an index to the number in a text; None if the elements can't be changed
+    is_result: whether the group is the destination of the last instruction
     """
 
     name: str
@@ -40,30 +41,30 @@ class VectorGroup:
     is_result: bool = False
 
     def text(self) -> str:
-        """The first elements in hexadecimal digits, as the monitor's `vreg` writes them, but the first one first."""
+        """Return the first elements in hexadecimal digits, as the monitor's `vreg` writes them, but from element 0 on."""
         count = _SHOWN * 4 if self.width == 1 else _SHOWN
         shown = [f"{value:0{max(1, self.width // 4)}x}" for value in self.values[:count]]
         return ("" if self.width == 1 else " ").join(shown) + " …" * (len(self.values) > count)
 
 
 def outcome_text(outcome: str) -> str:
-    """Return how an element took part, as the pages say it."""
+    """Return the text that pages show for the outcome of an element. outcome: such as `tail`"""
     return read_texts(LANGUAGE)[f"outcome.{outcome}"]
 
 
 def group_name(register: int, size: int) -> str:
-    """The name of a group: `v8`, or `v8-v11`."""
+    """Return the name of a group: `v8`, or `v8-v11`. register: the first; size: the number of registers"""
     return f"v{register}" if size == 1 else f"v{register}-v{register + size - 1}"
 
 
 def groups(instant: Instant) -> list[VectorGroup]:
-    """All vector registers as groups of the vector type; bytes where there is none."""
+    """Return all vector registers, in groups under the vector type. Under vill, each register is a group of bytes."""
     size = _group_size(instant.registers.control)
     return [group_at(instant, register) for register in range(0, REGISTERS, size)]
 
 
 def group_at(instant: Instant, register: int) -> VectorGroup:
-    """The group of the vector type that begins at a register. Raises LabError if none does."""
+    """Return the group that begins at a register under the vector type. Raises LabError if the register is inside another group."""
     control, v = instant.registers.control, bytes(instant.registers.v)
     is_typed, size = not control.vtype >> 63, _group_size(control)
     if register % size:
@@ -79,7 +80,10 @@ def group_at(instant: Instant, register: int) -> VectorGroup:
 
 
 def operand_groups(executed: ExecutedInstruction, before: bytes, after: bytes) -> list[VectorGroup]:
-    """The register groups of an instruction's operands: the destination after it, sources as they were before."""
+    """Return the register groups of an instruction's operands: destinations as they are after it, sources as they were before it.
+
+    before, after: the bytes of v0 to v31 before and after the instruction
+    """
     found = list[VectorGroup]()
     for each in executed.groups:
         is_result = each.role == "destination"
@@ -96,12 +100,15 @@ def operand_groups(executed: ExecutedInstruction, before: bytes, after: bytes) -
 
 
 def _group_size(control: ControlRegisters) -> int:
-    """The number of registers of a group."""
+    """Return the number of registers in a group: LMUL, but at least 1, and 1 under vill."""
     return 1 if control.vtype >> 63 else max(1, int(control.lmul))
 
 
 def _set_element(guest: Guest, register: int, width: int, index: int, text: str) -> None:
-    """Set an element of a group. Raises LabError."""
+    """Set an element of a group to the number in a text. Raises LabError.
+
+    register: the group's first register; width: of an element, in bits; index: the element's
+    """
     size = width // 8
     number, at = register + index * size // REGISTER_BYTES, index * size % REGISTER_BYTES
     data = bytearray(guest.vectors()[number])

@@ -13,14 +13,14 @@ MAX_BYTES = 1 << 24  # of a message
 
 
 class BadMessage(LabError):
-    """A message of the client is no request."""
+    """A message of the client isn't a request."""
 
 
 class Wire:
     """The connection to a client."""
 
     def __init__(self, source: int, write: Callable[[bytes], object]) -> None:
-        """source: a file descriptor to read from; write: is given bytes for the client"""
+        """source: a file descriptor to read from; write: sends bytes to the client"""
         self._contents, self._write = Contents(source, MAX_BYTES), write
         self._waiting = deque[Message]()
         self._number = 0  # of the last message that was sent
@@ -31,24 +31,27 @@ class Wire:
         self._write(message_bytes({"seq": self._number, "type": kind, **fields}))
 
     def receive(self) -> Message:
-        """Return the next message; wait for it. Raises EOFError if the client has gone, BadMessage, BadContent and BadHead."""
+        """Return the next message; wait for it if necessary.
+
+        Raises EOFError if the client has gone, and BadMessage, BadContent or BadHead for an invalid message.
+        """
         return self._waiting.popleft() if self._waiting else _request_of(self._contents.next())
 
     def comes_within(self, seconds: float) -> bool:
-        """Wait for a message for this time at most; return whether one comes, or the end of the input."""
+        """Wait for input for `seconds` at most. Return whether there is input: the start of a message, or the end of the input."""
         return bool(self._waiting) or self._contents.comes_within(seconds)
 
     @property
     def has_ended(self) -> bool:
-        """Whether the client sends nothing more, as far as its input was read; messages from before may be waiting."""
+        """Whether the end of the client's input has been read. Messages that arrived before the end may still be waiting."""
         return self._contents.has_ended
 
     def take(self, message: Message) -> None:
-        """Take a message out of those that are waiting."""
+        """Remove a message from the waiting messages."""
         self._waiting.remove(message)
 
     def waiting(self) -> Sequence[Message]:
-        """Return the messages that have come and aren't received yet. Raises as `receive` does."""
+        """Return the messages that have arrived and that `receive` hasn't returned yet, the oldest first. Raises as `receive` does."""
         self._contents.read_arrived()
         while self._contents.waiting:
             self._waiting.append(_request_of(self._contents.next()))
@@ -58,7 +61,7 @@ class Wire:
 
 
 def _request_of(content: bytes) -> Message:
-    """Return the message of a content. Raises BadMessage if it is no request, and BadContent."""
+    """Return the message in a content. Raises BadContent if the content isn't JSON, and BadMessage if the message isn't a request."""
     message = read_content(content)
     if not isinstance(message, dict) or type(message.get("seq")) is not int:
         raise BadMessage("a message has no number seq")

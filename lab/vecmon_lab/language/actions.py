@@ -1,4 +1,4 @@
-"""Code actions: the cures of the diagnostics at a range."""
+"""Code actions: the fixes of the diagnostics in a range."""
 
 from collections.abc import Iterable
 from typing import NotRequired, TypedDict
@@ -8,13 +8,13 @@ from .positions import Position, Range, TextEdit
 
 
 class WorkspaceEdit(TypedDict):
-    """Changes of documents, by their addresses."""
+    """Changes of documents, by their URIs."""
 
     changes: dict[str, list[TextEdit]]
 
 
 class CodeAction(TypedDict):
-    """A change that an editor offers."""
+    """A fix that an editor offers."""
 
     title: str
     kind: str
@@ -24,7 +24,7 @@ class CodeAction(TypedDict):
 
 
 def code_actions(uri: str, found: Iterable[Finding], span: Range) -> list[CodeAction]:
-    """The cures of all diagnostics that a range touches. uri: of the document"""
+    """Return the fixes of all diagnostics that overlap or touch a range. uri: of the document; found: the document's diagnostics"""
     actions = list[CodeAction]()
     for finding in found:
         if _touch(finding.diagnostic["range"], span):
@@ -42,7 +42,7 @@ def code_actions(uri: str, found: Iterable[Finding], span: Range) -> list[CodeAc
 
 
 def _touch(one: Range, other: Range) -> bool:
-    """Whether two ranges have a place in common, at their ends too."""
+    """Return whether two ranges overlap, or touch at their ends."""
     return _key(one["start"]) <= _key(other["end"]) and _key(other["start"]) <= _key(one["end"])
 
 

@@ -1,4 +1,4 @@
-"""A source as an editor shows it: its program, the word of each instruction, the vector types at it, and what is wrong."""
+"""The analysis of a source for an editor: its program, its words, the vector types before its instructions, and its illegal instructions."""
 
 import functools
 from collections.abc import Iterator, Sequence
@@ -23,9 +23,10 @@ from .source_flow import flow_of_source
 
 @dataclass(frozen=True)
 class Illegal:
-    """An instruction that is illegal under every vector type that may be in force.
+    """An instruction that is illegal under every vector type that may be in force before it.
 
-    types: these; None if it is illegal under every type
+    types: the types that may be in force; None if the instruction is illegal under every type
+    reasons: why it is illegal, in sentences
     """
 
     statement: Statement
@@ -34,16 +35,18 @@ class Illegal:
 
 
 class Analysis:
-    """A source and what is known of it.
+    """A source and the results of its analysis.
 
-    lines: of the text; plain: the same without comments
-    words: of the instructions, by address, without those that have mistakes
+    lines: of the source; plain: the same lines without comments
+    words: of the instructions, by address, without the instructions that have mistakes
+    program: the source's program, with all its mistakes; flow: the vector states before its instructions
+    by_line: the statements of the program, by the number of their line
     """
 
     def __init__(
         self, text: str, trial: Trial, files: FileReader | None = None, most_made: int = MAX_CHARACTERS
     ) -> None:
-        """most_made: characters that macros and repetitions may make; raises TooMuchMade if they make more"""
+        """most_made: the most characters that macros and repetitions may make; if they make more, this raises TooMuchMade"""
         self.lines = text.split("\n")
         self.plain = without_comments(text)[0].split("\n")
         read = with_inputs(read_source(text, files=files, most_made=most_made), text)
@@ -56,7 +59,7 @@ class Analysis:
 
     @functools.cached_property
     def names(self) -> list[Occurrence]:
-        """Where the names that the source defines are."""
+        """The places of the names that the source defines."""
         return occurrences(self.lines, self.plain)
 
     @functools.cached_property
@@ -68,11 +71,14 @@ class Analysis:
         return frozenset(target for target in calls if target is not None)
 
     def state(self, statement: Statement) -> VectorState | None:
-        """The state before an instruction; None if it isn't reached."""
+        """Return the vector state before an instruction; None if the instruction isn't reached."""
         return self.flow.states.get(statement.address)
 
     def state_before_line(self, number: int) -> VectorState:
-        """The state where a line begins that may be half-typed: that after the last instruction above it."""
+        """Return the vector state at the start of a line: the state after the last instruction above. number: of the line, from 1
+
+        The line's own instructions aren't used, since the line may be half-typed.
+        """
         above = [each for each in self.program.statements if each.line < number]
         last = max(above, key=lambda each: each.line, default=None)
         if last is None:
@@ -80,7 +86,10 @@ class Analysis:
         return self.flow.after(last.address) if last.address in self.flow.states else UNKNOWN
 
     def instruction(self, statement: Statement) -> VectorInstruction | None:
-        """The vector instruction under the only type that may be in force before it; None if there is no such type."""
+        """Return the vector instruction of a statement, decoded under the vector type in force before it.
+
+        Return None if it isn't a vector instruction, or if the type is unknown or vill, or differs between the paths to it.
+        """
         state, word = self.state(statement), self.words.get(statement.address)
         if state is None or state.vtype is None or word is None or state.vtype >> 63:
             return None
@@ -92,10 +101,10 @@ class Analysis:
         return [*self._illegal()]
 
     def _illegal(self) -> Iterator[Illegal]:
-        """Yield these instructions."""
+        """Yield the elements of `illegal`."""
         for statement in self.program.statements:
             word, state = self.words.get(statement.address), self.state(statement)
-            if word is None or state is None and statement.text.startswith(".word"):  # which may be data
+            if word is None or state is None and statement.text.startswith(".word"):  # this word may be data
                 continue
             if always := _reasons_always(word):
                 yield Illegal(statement, None, always)
@@ -104,16 +113,16 @@ class Analysis:
 
 
 def _reasons_always(word: int) -> Sequence[str]:
-    """Why a word is illegal under every supported type, and under vill; nothing if it is legal under one of these."""
+    """Return the reasons why a word is illegal under every supported type and under vill; none if it is legal under one of them."""
     reasons = _reasons(word, tuple(SUPPORTED))
     return reasons if reasons and _reasons(word, (VILL,)) else ()
 
 
 @functools.lru_cache(maxsize=1 << 14)
 def _reasons(word: int, types: tuple[int, ...], takes_first: bool = False) -> Sequence[str]:
-    """Why a word is illegal under each of these types; nothing if it is legal under one of them.
+    """Return the reasons why a word is illegal under all of some types; none if it is legal under one of them.
 
-    takes_first: whether, without a reason that all types have in common, those of the first type count
+    takes_first: whether to return the reasons under the first type if the types have no reason in common
     """
     every = list[list[str]]()
     for vtype in types:

@@ -1,7 +1,7 @@
-"""Others' sources, assembled with limits of processor and memory: small ones here, others in a separate process.
+"""Assembly of other people's sources with limits on processor time and memory: of small ones in this process, of others in a separate process.
 
-As a module it assembles the source on standard input, and prints its program, or the reason for which there is none, pickled. The arguments
-are the name of a reader, and the path of `vecmon`.
+The separate process runs this module. It reads the source from standard input, and prints a pickled object: the program, or the reason why
+there is none. Its arguments are the name of a reader and the path of `vecmon`.
 """
 
 import contextlib
@@ -23,7 +23,9 @@ from .line_types import read_typed_source
 
 LAB = pathlib.Path(__file__).resolve().parents[2]
 MODULE = "language.apart"
-SMALL = 4096  # characters of a source without comments and blanks, and characters that its macros may make
+SMALL = (
+    4096  # the most characters of a small source, without comments and blanks, and the most that its macros may make
+)
 CPU_SECONDS, MEMORY_BYTES = 10, 1 << 30
 TOO_LONG = f"assembling this source takes more than {CPU_SECONDS} s of processor: shorten its repetitions and lists"
 TOO_LARGE = (
@@ -31,7 +33,10 @@ TOO_LARGE = (
 )
 
 Reader = Callable[[str, pathlib.Path, int], Program]
-"""Reads a source, whose macros may make a number of characters. Raises TooMuchMade if they make more."""
+"""Reads a source. Its arguments are the source, the path of `vecmon`, and the most characters that macros may make.
+
+Raises TooMuchMade if macros make more.
+"""
 
 READERS: dict[str, Reader] = {
     "source": lambda text, vecmon, most: read_source(text, most_made=most),
@@ -42,7 +47,10 @@ READERS: dict[str, Reader] = {
 
 
 def read_small(reader: str, text: str, vecmon: pathlib.Path) -> Program | None:
-    """Read a source here if that takes little; else return None."""
+    """Read a source in this process if it is small; return None if it isn't, or if its macros make more than SMALL characters.
+
+    reader: a name in READERS; text: the source; vecmon: the path of the program
+    """
     if len("".join(without_comments(text)[0].split())) > SMALL:
         return None
     try:
@@ -52,7 +60,12 @@ def read_small(reader: str, text: str, vecmon: pathlib.Path) -> Program | None:
 
 
 def read_limited(reader: str, text: str, vecmon: pathlib.Path) -> Program:
-    """Read a source, in a separate process if that may take long. Raises LabError if it takes too much."""
+    """Read a source: in this process if it is small, otherwise in a separate process with limits.
+
+    reader: a name in READERS; text: the source; vecmon: the path of the program
+
+    Raises LabError if the process takes more than CPU_SECONDS or MEMORY_BYTES, or ends with an error.
+    """
     if (program := read_small(reader, text, vecmon)) is not None:
         return program
     command = [sys.executable, "-PB", "-m", f"vecmon_lab.{MODULE}", reader, str(vecmon)]
@@ -66,12 +79,12 @@ def read_limited(reader: str, text: str, vecmon: pathlib.Path) -> Program:
 
 
 def encoded(text: str) -> bytes:
-    """The input of the module."""
+    """Return the input of the separate process. text: the source"""
     return text.encode("utf-8", "surrogatepass")
 
 
 def decoded(output: bytes) -> Program:
-    """The program that the module has printed. Raises LabError with the reason for which there is none."""
+    """Return the program in the output of the separate process. Raises LabError with the reason if there is none."""
     result: Program | str = pickle.loads(output)
     if isinstance(result, str):
         raise LabError(result)
@@ -79,12 +92,12 @@ def decoded(output: bytes) -> Program:
 
 
 def _plain(mistake: SourceError) -> SourceError:
-    """A mistake, or a warning, without what its kind has for the assembler."""
+    """Return a mistake or a warning as a plain SourceError, without the attributes that only the assembler uses."""
     return SourceError(mistake.line, mistake.column, mistake.message, mistake.code, list(mistake.fix))
 
 
 def main() -> int:
-    """Assemble the source on standard input within the limits."""
+    """Assemble the source on standard input within the limits, and print the pickled result. Return the exit status."""
     reader, vecmon = sys.argv[1:]
     resource.setrlimit(resource.RLIMIT_CPU, (CPU_SECONDS, CPU_SECONDS + 1))
     resource.setrlimit(resource.RLIMIT_AS, (MEMORY_BYTES, MEMORY_BYTES))
@@ -97,7 +110,7 @@ def main() -> int:
 
 
 def _assembled(reader: str, vecmon: pathlib.Path) -> bytes:
-    """The program of the source on standard input, or the reason for which there is none, pickled. Raises MemoryError."""
+    """Return the pickled program of the source on standard input, or the pickled reason why there is none. Raises MemoryError."""
     text = sys.stdin.buffer.read().decode("utf-8", "surrogatepass")
     try:
         program = READERS[reader](text, vecmon, MAX_CHARACTERS)

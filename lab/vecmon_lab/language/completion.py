@@ -1,4 +1,4 @@
-"""Completions: names at the start of a statement, and what fits as the operand at the caret."""
+"""Completions: the names at the start of a statement, and the texts that fit as the operand at the caret."""
 
 import functools
 import re
@@ -20,7 +20,7 @@ from .positions import Position, Range, TextEdit, index_at, position
 
 _KEYWORD, _FUNCTION, _VARIABLE, _CONSTANT, _REFERENCE, _METHOD, _ENUM = 14, 3, 6, 21, 18, 2, 20  # kinds of items
 _SCALARS = sorted(REGISTERS, key=lambda name: "atsrg".find(name[0]) % 6 + 6 * (name in ("sp", "tp")))
-"""The scalar registers by their names, those that programs use most first."""
+"""The names of the scalar registers, with those that programs use most at the start."""
 
 _VECTORS = [f"v{number}" for number in range(32)]
 _CONTROL_REGISTERS = dict(read_table("keywords"))[r"csr\w*"].split()
@@ -30,7 +30,7 @@ _TAKES_LABEL = (".globl", ".global", ".weak", ".word", ".dword", ".quad", ".type
 
 
 class Item(TypedDict):
-    """A completion. textEdit: replaces what is typed of it"""
+    """A completion. textEdit: replaces the part of the word that is typed already"""
 
     label: str
     kind: int
@@ -41,7 +41,7 @@ class Item(TypedDict):
 
 
 def completions(analysis: Analysis, where: Position) -> list[Item]:
-    """The completions at a place; none in a comment, or if a statement can't be divided into tokens."""
+    """Return the completions at a position; none in a comment, or if the statement can't be divided into tokens."""
     number = where["line"] + 1
     if not 0 < number <= len(analysis.lines):
         return []
@@ -68,13 +68,13 @@ def completions(analysis: Analysis, where: Position) -> list[Item]:
 
 
 def _item(at: int, span: Range, label: str, kind: int, detail: str) -> Item:
-    """A completion. at: its number in the list"""
+    """Return a completion. at: its index in the list; span: the range that it replaces"""
     edit: TextEdit = {"range": span, "newText": label}
     return {"label": label, "kind": kind, "detail": detail, "sortText": f"{at:04}", "textEdit": edit}
 
 
 def resolved(item: Item) -> Item:
-    """A completion with what its name means."""
+    """Return a completion with the description of its name, if there is one."""
     if texts := describe(item["label"]):
         item["documentation"] = "\n".join(texts)
     return item
@@ -85,7 +85,7 @@ def _is_word(token: Token) -> bool:
 
 
 def _first_words(analysis: Analysis) -> Iterator[tuple[str, int, str]]:
-    """The names that a statement may begin with, each with its kind and its operands."""
+    """Yield the names that may begin a statement, each with its kind and a detail, such as its operands."""
     yield from ((it.name, _METHOD, "macro") for it in analysis.names if it.defines == "macro")
     for name in sorted(SOURCE_NAMES):
         yield name, _FUNCTION, ", ".join(forms_of(name)[0]) if forms_of(name) else ""
@@ -93,7 +93,10 @@ def _first_words(analysis: Analysis) -> Iterator[tuple[str, int, str]]:
 
 
 def _operands(analysis: Analysis, tokens: Sequence[Token], number: int) -> Iterator[tuple[str, int, str]]:
-    """The texts that fit as the operand that begins or goes on after these tokens; the first token is a name."""
+    """Yield the texts that fit as the operand at the caret, each with its kind and a detail.
+
+    tokens: of the statement before the word at the caret; the first one is the name of the instruction; number: of the line, from 1
+    """
     name = tokens[0].text.lower()
     place = sum(token.text == "," for token in tokens)
     is_inside = tokens[-1].text == "("
@@ -112,7 +115,11 @@ def _operands(analysis: Analysis, tokens: Sequence[Token], number: int) -> Itera
 
 
 def _fitting(analysis: Analysis, name: str, field: str, number: int, is_inside: bool) -> Iterator[tuple[str, int, str]]:
-    """The texts that fit in place of a field of the table of instructions."""
+    """Yield the texts that fit as an operand, each with its kind and a detail.
+
+    name: of the instruction; field: of the operand in the table of instructions; number: of the line, from 1
+    is_inside: whether the caret is after `(`
+    """
     if is_inside:
         yield from ((register, _VARIABLE, REGISTERS[register]) for register in _SCALARS)
     elif field in ("(rs1)", "address"):
@@ -134,14 +141,14 @@ def _fitting(analysis: Analysis, name: str, field: str, number: int, is_inside: 
 
 
 def _labels(analysis: Analysis) -> Iterator[tuple[str, int, str]]:
-    """The labels of the source."""
+    """Yield the labels of the source, each with its kind and a detail."""
     for each in analysis.names:
         if each.defines == "label":
             yield each.name, _REFERENCE, f"line {each.line}"
 
 
 def _vectors(analysis: Analysis, name: str, field: str, number: int) -> Iterator[tuple[str, int, str]]:
-    """The vector registers at which a group of an operand may begin, under the type in force; all of them if it is unknown."""
+    """Yield the vector registers at which the group of an operand may begin under the vector type in force; all of them if it is unknown."""
     vtype, row = analysis.state_before_line(number).vtype, instruction_table().get(name)
     if vtype is None or vtype >> 63 or row is None:
         yield from ((register, _VARIABLE, "") for register in _VECTORS)
@@ -156,19 +163,19 @@ def _vectors(analysis: Analysis, name: str, field: str, number: int) -> Iterator
 
 
 def _place(place: str, row: Row) -> str:
-    """The name of a field of a vector operand, as the row of its instruction has it."""
+    """Return the name of a vector operand's field in the row of its instruction: `vs3`, not `vd`, for a store."""
     return "vs3" if place == "vd" and "vs3" in row.fields() else place
 
 
 def _word(row: Row, field: str, register: int) -> int:
-    """The word of an instruction, unmasked, with a register in a field, and else zeros."""
+    """Return the word of an instruction without a mask. register: the number in the vector field `field`; other fields are 0"""
     low = {"vd": 7, "vs3": 7, "vs1": 15, "vs2": 20}.get(field, 7)
     return row.word(register << low | 1 << 25)
 
 
 @functools.lru_cache(maxsize=1024)
 def forms_of(name: str) -> list[list[str]]:
-    """The operands of an instruction or a pseudo-instruction, by form; of a vector type its parts are operands of their own."""
+    """Return the forms of an instruction or a pseudo-instruction, each as a list of operands. Each part of a vector type is an operand."""
     row = instruction_table().get(name)
     forms = [re.sub(r"[\[\]]", "", row.operands)] if row else []
     rows = [*read_table("pseudo"), *read_table("aliases")]

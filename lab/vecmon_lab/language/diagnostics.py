@@ -1,4 +1,4 @@
-"""What is wrong with a source, and changes that cure it."""
+"""The diagnostics of a source, and changes that fix them."""
 
 from collections.abc import Iterable, Iterator
 from dataclasses import dataclass
@@ -19,12 +19,12 @@ from .positions import Range, TextEdit, range_of
 SOURCE = "vecmon"
 ERROR, WARNING, HINT = 1, 2, 4  # severities
 ILLEGAL = "illegal"
-_RESERVED = 4  # the value of vlmul that no type has
+_RESERVED = 4  # the reserved value of vlmul
 _FIRST_TYPE = "vsetvli t0, a0, e32, m1, ta, ma"
 
 
 class Diagnostic(TypedDict):
-    """A message at a range. code: the machine's refusal, or `illegal`"""
+    """A message at a range. code: the machine's refusal, `illegal` or `vill`"""
 
     range: Range
     severity: int
@@ -35,7 +35,7 @@ class Diagnostic(TypedDict):
 
 @dataclass(frozen=True)
 class Fix:
-    """A change that cures something."""
+    """A change that fixes a diagnostic. title: its text in the editor's menu"""
 
     title: str
     edit: TextEdit
@@ -43,14 +43,14 @@ class Fix:
 
 @dataclass(frozen=True)
 class Finding:
-    """A diagnostic with its cures, the likeliest one first."""
+    """A diagnostic with its fixes, the most likely one first."""
 
     diagnostic: Diagnostic
     fixes: tuple[Fix, ...] = ()
 
 
 def findings(analysis: Analysis) -> list[Finding]:
-    """The mistakes and warnings of a source, and its illegal instructions, in its order."""
+    """Return the diagnostics of a source by rising line: mistakes, warnings, illegal instructions, and instructions that set vill."""
     found = [
         *_mistakes(analysis, "error"),
         *_mistakes(analysis, "warning"),
@@ -61,7 +61,10 @@ def findings(analysis: Analysis) -> list[Finding]:
 
 
 def _mistakes(analysis: Analysis, severity: Severity) -> Iterator[Finding]:
-    """The mistakes or the warnings of the assembler. A name of another extension or of lessons gets a hint: the source may be for these."""
+    """Yield the diagnostics of the assembler's mistakes or warnings.
+
+    A name of another extension, or of a lesson's command, gets only a hint: the source may be written for this extension, or for a lesson.
+    """
     program = analysis.program
     errors = program.mistakes if severity == "error" else program.warnings
     for error, mistake in zip(errors, mistakes_json(errors, "\n".join(analysis.lines), severity=severity)):
@@ -83,7 +86,10 @@ def _mistakes(analysis: Analysis, severity: Severity) -> Iterator[Finding]:
 
 
 def _illegal(analysis: Analysis) -> Iterator[Finding]:
-    """The instructions that trap, at their names; of a macro that is called several times each message once."""
+    """Yield the diagnostics of illegal instructions, at the instructions' names.
+
+    An instruction of a macro that is called several times gets each message only once.
+    """
     seen = set[tuple[int, int, str]]()
     for illegal in analysis.illegal:
         line, column = illegal.statement.place(0)
@@ -102,7 +108,7 @@ def _illegal(analysis: Analysis) -> Iterator[Finding]:
 
 
 def _without_type(analysis: Analysis) -> Iterator[Finding]:
-    """The instructions that should set a vector type, and set vill on all ways."""
+    """Yield the warnings about instructions that should set a vector type, but set vill on all paths."""
     for statement in analysis.program.statements:
         word = analysis.words.get(statement.address, 0)
         if not is_vset(word) or statement.within or analysis.state(statement) is None:
@@ -123,7 +129,7 @@ def _without_type(analysis: Analysis) -> Iterator[Finding]:
 
 
 def _vill_message(requested: int | None) -> str:
-    """Why an instruction that asks for a vector type sets vill."""
+    """Return the reason why an instruction that sets a vector type sets vill. requested: the type; None if it is unknown"""
     if requested is not None and is_supported(requested):
         return "sets vill: with x0 twice vl stays, so the type before has to have the same VLMAX"
     if requested is not None and requested < 1 << 8 and requested & 7 != _RESERVED and requested >> 5 & 1 == 0:
@@ -132,7 +138,7 @@ def _vill_message(requested: int | None) -> str:
 
 
 def illegal_message(illegal: Illegal) -> str:
-    """Why an instruction is illegal, and under which types unless it always is."""
+    """Return the reasons why an instruction is illegal, and the types under which it is, unless it always is."""
     reasons = " ".join(illegal.reasons)
     within = "".join(f" ({each})" for each in illegal.statement.within[:1])
     if illegal.types is None:
@@ -141,12 +147,12 @@ def illegal_message(illegal: Illegal) -> str:
 
 
 def listed_types(types: Iterable[int]) -> str:
-    """Vector types as `e8,m1,ta,ma or e16,m2,ta,ma`."""
+    """Return vector types as text, such as `e8,m1,ta,ma or e16,m2,ta,ma`."""
     return " or ".join(vtype_text(each) for each in sorted(types))
 
 
 def _cures(analysis: Analysis, illegal: Illegal, line: int) -> Iterator[Fix]:
-    """Yield a fix for an instruction before which no type is set: an instruction that sets one."""
+    """Yield a fix for an illegal instruction before which no type is set: insert an instruction that sets one. line: where to insert it"""
     if illegal.types != frozenset([VILL]) or illegal.statement.within:
         return
     text = analysis.lines[line - 1]

@@ -1,4 +1,4 @@
-"""The documents that an editor has open, and what is found out about each text of them."""
+"""The documents that an editor has open, each with the analysis and the diagnostics of its present text."""
 
 import pathlib
 from collections.abc import Sequence
@@ -13,15 +13,15 @@ from .analysis import Analysis
 from .diagnostics import HINT, SOURCE, Finding, findings
 from .positions import Change, changed, lines_of, range_of
 
-MAX_CHARACTERS, MAX_STATEMENTS = 300_000, 5_000  # of a document that is read
-MAX_MADE = 100_000  # characters that its macros and repetitions make, with 16 more for each statement
+MAX_CHARACTERS, MAX_STATEMENTS = 300_000, 5_000  # the most in a document that is checked
+MAX_MADE = 100_000  # the most characters that its macros and repetitions may make; each statement counts as 16 more
 UNCHECKED = "this source isn't checked"
 
 
 class Document:
     """An open document.
 
-    lines: of its text; version: of the text, as the editor counts
+    uri: its URI; lines: of the present text; version: the editor's number of the present text
     """
 
     def __init__(self, uri: str, text: str, version: int, trial: Trial) -> None:
@@ -34,19 +34,19 @@ class Document:
         self._problem: SourceError | None = None
 
     def change(self, changes: Sequence[Change], version: int) -> None:
-        """Take up changes, one after another."""
+        """Apply changes to the text, one after another. version: the editor's number of the new text"""
         for each in changes:
             self.lines = changed(self.lines, each)
         self.version, self._analysis, self._findings = version, None, None
 
     @property
     def is_read(self) -> bool:
-        """Whether the text is read as it is now."""
+        """Whether the diagnostics of the present text are known already."""
         return self._findings is not None
 
     @property
     def analysis(self) -> Analysis:
-        """What is known of the text. Of one that isn't read it is empty."""
+        """The analysis of the present text; that of an empty text if the present one can't be checked."""
         if self._analysis is None:
             text = "\n".join(self.lines)
             self._problem = self._reason_against(text)
@@ -62,14 +62,17 @@ class Document:
 
     @property
     def findings(self) -> list[Finding]:
-        """What is wrong with the text."""
+        """The diagnostics of the present text. If the text can't be checked, the only one is a hint with the reason."""
         if self._findings is None:
             analysis = self.analysis
             self._findings = [self._unread(self._problem)] if self._problem else findings(analysis)
         return self._findings
 
     def _reason_against(self, text: str) -> SourceError | None:
-        """Why the text isn't read: it is too large, or a preprocessor makes the source from it."""
+        """Return the reason why a text can't be checked; None if there is none.
+
+        A text can't be checked if it is too large, or if it has lines for the C preprocessor.
+        """
         if len(text) > MAX_CHARACTERS:
             return SourceError(1, 1, f"there are more than {MAX_CHARACTERS:,} characters; {UNCHECKED}")
         if len(self.lines) + text.count(";") > MAX_STATEMENTS:
@@ -82,16 +85,16 @@ class Document:
         return None
 
     def _unread(self, problem: SourceError) -> Finding:
-        """The hint that a text isn't read."""
+        """Return the hint that the text can't be checked. problem: the reason"""
         span = range_of(self.lines, problem.line, problem.column, 1)
         return Finding({"range": span, "severity": HINT, "source": SOURCE, "message": problem.message})
 
     def _files(self) -> FileReader | None:
-        """A reader of the files that the source includes, which are in its folder; None if it is in none."""
+        """Return a reader of the files that the source may include, which are in its folder; None if the document isn't a file."""
         return files_beside(self._path) if self._path is not None else None
 
 
 def path_of(uri: str) -> pathlib.Path | None:
-    """The path of a document; None if it isn't a file."""
+    """Return the path of the document with a URI; None if it isn't a file of this computer."""
     parts = urlsplit(uri)
     return pathlib.Path(unquote(parts.path)) if parts.scheme == "file" and parts.netloc in ("", "localhost") else None

@@ -1,4 +1,4 @@
-"""Inlay hints: the vector length after an instruction that sets it, register groups of two widths, and types at labels."""
+"""Inlay hints: the vector length after an instruction that sets it, register groups of different widths, and vector types at labels."""
 
 import bisect
 from collections.abc import Iterator
@@ -15,7 +15,7 @@ from .positions import Position, position
 
 
 class InlayHint(TypedDict):
-    """A text that an editor shows behind a line."""
+    """A text that an editor shows after the end of a line."""
 
     position: Position
     label: str
@@ -23,7 +23,7 @@ class InlayHint(TypedDict):
 
 
 def hints(analysis: Analysis, first: int, last: int) -> list[InlayHint]:
-    """The hints of the lines of a range, from 1 on. Nothing is said where the type is unknown."""
+    """Return the hints of the lines from `first` to `last`, counted from 1. Where the vector type is unknown, there are none."""
     found = list[InlayHint]()
     labels = _labels(analysis)
     for number in range(max(first, 1), min(last, len(analysis.lines)) + 1):
@@ -38,7 +38,7 @@ def hints(analysis: Analysis, first: int, last: int) -> list[InlayHint]:
 
 
 def _labels(analysis: Analysis) -> dict[int, int]:
-    """The lines that define labels of instructions, each with the address of the instruction."""
+    """Return the addresses of the instructions that have a label, by the line of the label."""
     lines, found = sorted(analysis.by_line), dict[int, int]()
     for each in analysis.names:
         at = bisect.bisect_left(lines, each.line)
@@ -50,7 +50,10 @@ def _labels(analysis: Analysis) -> dict[int, int]:
 
 
 def _at_label(analysis: Analysis, address: int) -> str:
-    """The type at a label, if it isn't that after the instruction above: there is another way to it."""
+    """Return the text about the vector type at a label; "" if it is unknown, or the same as after the instruction above the label.
+
+    address: of the label. Its type differs if a jump to it comes from a place with another type.
+    """
     state = analysis.flow.states.get(address)
     if state is None or state.types is None or state.types == {VILL}:
         return ""
@@ -61,7 +64,7 @@ def _at_label(analysis: Analysis, address: int) -> str:
 
 
 def _after(analysis: Analysis, statement: Statement) -> Iterator[str]:
-    """What an instruction sets, or the groups of its operands where their elements have several widths."""
+    """Yield the texts after an instruction: vl, if the instruction sets it, and the register groups if their elements have different widths."""
     word = analysis.words.get(statement.address)
     row = row_of(word) if word is not None else None
     if row is None or statement.address not in analysis.flow.states:
@@ -75,12 +78,15 @@ def _after(analysis: Analysis, statement: Statement) -> Iterator[str]:
 
 
 def _is_refused(analysis: Analysis, statement: Statement) -> bool:
-    """Whether an instruction is illegal, so that its groups mean nothing."""
+    """Return whether an instruction is illegal, so that it has no register groups."""
     return any(each.statement is statement for each in analysis.illegal)
 
 
 def set_text(state: VectorState) -> str:
-    """The length and the longest length after an instruction that sets the vector type; "" if the type is unknown."""
+    """Return the text about vl and VLMAX, such as `vl 4, VLMAX 8`; "" if the vector type is unknown.
+
+    state: after an instruction that sets the vector type
+    """
     if state.vtype is None:
         return ""
     if state.vtype == VILL:
@@ -90,6 +96,6 @@ def set_text(state: VectorState) -> str:
 
 
 def group_text(operand: Operand) -> str:
-    """The registers of an operand and the width of its elements, as `v8–v11 (e32)`."""
+    """Return the registers of an operand and the width of its elements in bits, such as `v8–v11 (e32)`."""
     first, last = operand.registers[0], operand.registers[-1]
     return f"v{first}{f'–v{last}' if last > first else ''} (e{operand.eew})"

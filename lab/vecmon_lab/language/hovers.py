@@ -21,7 +21,7 @@ from .positions import Position, Range, index_at, range_of
 
 
 def hover(analysis: Analysis, where: Position) -> tuple[list[str], Range] | None:
-    """The lines for the word at a place, and its range; None if there is nothing to say."""
+    """Return the lines of text about the word at a position, and the word's range; None if there is no text about it."""
     token = word_at(analysis, where)
     if token is None:
         return None
@@ -31,7 +31,7 @@ def hover(analysis: Analysis, where: Position) -> tuple[list[str], Range] | None
 
 
 def word_at(analysis: Analysis, where: Position) -> Token | None:
-    """The token of a statement at a place, or that ends there; None in a comment and between words."""
+    """Return the name or the number at a position, or the one that ends there; None if there is none, as in a comment."""
     number = where["line"] + 1
     if not 0 < number <= len(analysis.plain):
         return None
@@ -46,7 +46,7 @@ def word_at(analysis: Analysis, where: Position) -> Token | None:
 
 
 def _meaning(token: Token) -> list[str]:
-    """The meaning of a name in any source."""
+    """Return the lines about the meaning that a name has in every source; none if it has no such meaning."""
     register = REGISTER_NAMES.get(token.text, "")
     name = token.text.lower()
     if found := describe(name):
@@ -58,7 +58,10 @@ def _meaning(token: Token) -> list[str]:
 
 
 def _vector_register(analysis: Analysis, token: Token) -> list[str]:
-    """The operands of the line's instructions whose groups have a vector register; nothing for other words."""
+    """Return the lines about a vector register: its size, and the operands of the line's instructions that contain it.
+
+    Return no lines for other words.
+    """
     if not REGISTER_NAMES.get(token.text, "").startswith("v"):
         return []
     texts, number = [f"{token.text}: a vector register of {REGISTER_BITS} bits"], int(token.text.removeprefix("v"))
@@ -70,13 +73,16 @@ def _vector_register(analysis: Analysis, token: Token) -> list[str]:
 
 
 def operand_text(operand: Operand) -> str:
-    """An operand as its place, its use, its registers and their division into elements."""
+    """Return the text about an operand: its field, its use, its registers, EEW and EMUL."""
     place = "vs3" if operand.noun == "data" else operand.place
     return f"{place} {operand.noun}: {group_text(operand)}, EEW {operand.eew}, EMUL {operand.emul}"
 
 
 def _label(analysis: Analysis, where: Position) -> list[str]:
-    """What the source defines under the name at a place: the address, the line, and the type there."""
+    """Return the lines about a name that the source defines: its address, its definition, and the vector type at the address.
+
+    Return no lines if the source doesn't define the name at the position.
+    """
     found = occurrence_at(analysis, where)
     if found is None:
         return []
@@ -91,7 +97,7 @@ def _label(analysis: Analysis, where: Position) -> list[str]:
 
 
 def _here(analysis: Analysis, token: Token) -> Iterator[str]:
-    """What the instruction at a place is under the vector type in force there."""
+    """Yield the lines about the instruction whose name is at a token, under the vector type in force before it."""
     if token.text.lower() not in SOURCE_NAMES:
         return
     for statement in analysis.by_line.get(token.line, []):
@@ -100,7 +106,7 @@ def _here(analysis: Analysis, token: Token) -> Iterator[str]:
 
 
 def _instruction_here(analysis: Analysis, statement: Statement) -> Iterator[str]:
-    """The text and the word of an instruction, the type before it, and the register groups of its operands."""
+    """Yield the lines about an instruction: its text and word, the vector type before it, and the register groups of its operands."""
     word = analysis.words.get(statement.address)
     yield f"here: {statement.text}" + (f"  [{word:08x}]" if word is not None else "")
     yield from (f"  {text}" for text in state_texts(analysis.state(statement)))
@@ -113,7 +119,7 @@ def _instruction_here(analysis: Analysis, statement: Statement) -> Iterator[str]
 
 
 def state_texts(state: VectorState | None) -> Iterator[str]:
-    """What is known of the vector type and length at a place."""
+    """Yield the lines about the vector type and the length in a state; none if they are unknown."""
     if state is None or state.types is None:
         return
     if state.vtype is None:

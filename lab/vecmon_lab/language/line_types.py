@@ -1,4 +1,7 @@
-"""Lines of a source at which the vector type or length is shown: where one is set, and where another one is in force than shown above."""
+"""The lines of a source at which the vector type and length are shown.
+
+These are the lines that set a type, and those where the type in force differs from the one that the lines above show.
+"""
 
 from collections.abc import Mapping
 from dataclasses import replace
@@ -14,13 +17,16 @@ from ..instructions.words import OP_V, VECTOR_ACCESSES
 from ..machine.process import Vecmon
 from .source_flow import flow_of_source
 
-MAX_STATEMENTS = 5_000  # of a source whose types are found
+MAX_STATEMENTS = 5_000  # a source with more has no types at its lines
 
 
 def read_typed_source(
     text: str, vecmon: Vecmon, files: FileReader | None = None, most_made: int = MAX_CHARACTERS
 ) -> Program:
-    """The program of a source as `read_tried_source` returns it, with the vector types at its lines."""
+    """Return the program of a source with all its mistakes, as `read_tried_source` does, and with the vector types at its lines.
+
+    most_made: the most characters that macros and repetitions may make; if they make more, this raises TooMuchMade
+    """
     with Trial(vecmon) as trial:
         read = with_inputs(read_source(text, files=files, most_made=most_made), text)
         words = trial.words(read)
@@ -30,18 +36,19 @@ def read_typed_source(
 
 
 def line_types(program: Program, words: Mapping[int, int], text: str) -> list[LineType]:
-    """The vector types at the lines of a source, in order.
+    """Return the vector types that are shown at the lines of a source, by rising line.
 
-    words: of its instructions, by address
-    A type is shown where an instruction sets it, also one of a macro that the line calls. One that comes by another way is shown only if
-    an instruction takes it, at the line from which on it is in force.
+    words: of the program's instructions, by address; text: the source
+
+    An instruction that sets a type shows the type at its line; for an instruction of a macro, that is the line of the macro's call. If a type
+    comes into force in another way, such as by a jump, it is shown only if a vector instruction uses it, at the line where it comes into force.
     """
     if len(program.statements) > MAX_STATEMENTS:
         return []
     flow = flow_of_source(program, words, without_comments(text)[0].split("\n"))
     found = dict[int, LineType]()
-    shown = present = UNKNOWN  # as the lines above show it, and as it is after the instruction above
-    start = 0  # the line from which on the present state is in force; 0 for the next one
+    shown = present = UNKNOWN  # the state that the lines above show, and the state after the instruction above
+    start = 0  # the line where the present state came into force; 0 if that is the next line with an instruction
     for statement in sorted(program.statements, key=lambda each: each.line):
         word, before = words.get(statement.address, 0), flow.states.get(statement.address)
         if not start or before != present:
@@ -62,6 +69,6 @@ def line_types(program: Program, words: Mapping[int, int], text: str) -> list[Li
 
 
 def _line_type(line: int, state: VectorState) -> LineType:
-    """What is shown of a state at a line."""
+    """Return the entry of a line: the types that a state may have, in hexadecimal digits, and vl if it is known."""
     types = [f"{each:x}" for each in sorted(state.types or ())]
     return {"line": line, "types": types} if state.vl is None else {"line": line, "types": types, "vl": state.vl}

@@ -1,6 +1,6 @@
-"""Where the names of a source are defined and used: labels, numeric labels, constants and macros.
+"""The places where a source defines and uses names: of labels, numeric labels, constants and macros.
 
-The source is divided into tokens as the assembler does. Parts that a condition leaves out count as well, so that renaming changes them too.
+The source is divided into tokens in the assembler's way. Parts that a condition leaves out are included, so that renaming changes them, too.
 """
 
 from collections import Counter
@@ -23,8 +23,9 @@ _INPUT = "#>"
 class Occurrence:
     """A name at a place in a source.
 
-    name: of a numeric label its number and which of its definitions counts; column: from 1 on
-    defines: the kind of the name if it is defined here
+    name: the name; for a numeric label, its number and the number of its definition, with a line feed between them
+    line, column: counted from 1; length: in characters
+    defines: the kind of the name, if it is defined here; None if it is used here
     """
 
     name: str
@@ -35,7 +36,7 @@ class Occurrence:
 
 
 def occurrences(lines: Sequence[str], plain: Sequence[str]) -> list[Occurrence]:
-    """All names of a source that it defines, in their order. plain: its lines without comments"""
+    """Return the places of all names that a source defines, in the source's order. lines: of the source; plain: the same without comments"""
     found, numeric = list[Occurrence](), Counter[int]()
     for number, (line, text) in enumerate(zip(lines, plain), 1):
         for statement in split_line(Line(text, number)):
@@ -48,7 +49,7 @@ def occurrences(lines: Sequence[str], plain: Sequence[str]) -> list[Occurrence]:
 
 
 def _tokens(line: Line) -> list[Token]:
-    """The tokens of a statement; none where it has a character that no statement has."""
+    """Return the tokens of a statement; none if it can't be divided into tokens."""
     try:
         return tokens_of(line)
     except SourceError:
@@ -56,7 +57,7 @@ def _tokens(line: Line) -> list[Token]:
 
 
 def _names(tokens: list[Token], numeric: Counter[int]) -> Iterator[Occurrence]:
-    """The names of a statement. numeric: the definitions of each numeric label so far"""
+    """Yield the names in a statement. numeric: the number of definitions of each numeric label so far, which a definition here increases"""
     while len(tokens) > 1 and tokens[1].text == ":":
         label, _, *tokens = tokens
         if label.kind is Kind.NUMBER and label.text.isdecimal():
@@ -82,7 +83,7 @@ def _names(tokens: list[Token], numeric: Counter[int]) -> Iterator[Occurrence]:
 
 
 def _uses(tokens: Sequence[Token], numeric: Counter[int]) -> Iterator[Occurrence]:
-    """The names that operands use."""
+    """Yield the names that operands use."""
     for before, token, after in zip([None, *tokens], tokens, [*tokens[1:], None]):
         if token.kind is Kind.NUMBER and token.text[-1] in "bf" and token.text[:-1].isdecimal():
             number = int(token.text[:-1])

@@ -1,4 +1,4 @@
-"""Definitions, uses and new names, and the outline of a source."""
+"""The definition, the references and the renaming of names, and the outline of a source."""
 
 import re
 from collections.abc import Sequence
@@ -28,14 +28,14 @@ class Symbol(TypedDict):
 
 
 class Highlight(TypedDict):
-    """A place of the name at the caret."""
+    """A place that an editor highlights, since it has the name at the caret."""
 
     range: Range
     kind: int
 
 
 def occurrence_at(analysis: Analysis, where: Position) -> Occurrence | None:
-    """The name at a place, or that ends there; None if there is none that the source defines."""
+    """Return the name at a position, or the one that ends there; None if the source defines no such name."""
     number = where["line"] + 1
     if not 0 < number <= len(analysis.lines):
         return None
@@ -45,35 +45,35 @@ def occurrence_at(analysis: Analysis, where: Position) -> Occurrence | None:
 
 
 def definition(analysis: Analysis, where: Position) -> list[Range]:
-    """Where the name at a place is defined; a constant may have several definitions."""
+    """Return the ranges where the name at a position is defined. A constant may have several definitions."""
     return [_range(analysis, it) for it in _same(analysis, where) if it.defines]
 
 
 def references(analysis: Analysis, where: Position, with_definition: bool) -> list[Range]:
-    """Where the name at a place is used."""
+    """Return the ranges where the name at a position is used. with_definition: whether to include its definitions"""
     return [_range(analysis, it) for it in _same(analysis, where) if with_definition or not it.defines]
 
 
 def highlights(analysis: Analysis, where: Position) -> list[Highlight]:
-    """Where the name at a place is defined and used, for the editor to mark."""
+    """Return the places where the name at a position is defined and used, for the editor to highlight."""
     return [{"range": _range(analysis, it), "kind": _WRITE if it.defines else _READ} for it in _same(analysis, where)]
 
 
 def renamed(analysis: Analysis, where: Position, name: str) -> list[TextEdit]:
-    """The changes that give the name at a place another one. Raises LabError if that isn't possible."""
+    """Return the changes that replace the name at a position by another name. Raises LabError if it can't be renamed."""
     _check_new_name(analysis, name)
     return [{"range": _range(analysis, it), "newText": name} for it in _same(analysis, _renameable(analysis, where))]
 
 
 def rename_range(analysis: Analysis, where: Position) -> Range:
-    """The range of the name at a place. Raises LabError if it can't be renamed."""
+    """Return the range of the name at a position. Raises LabError if it can't be renamed."""
     found = occurrence_at(analysis, _renameable(analysis, where))
     assert found is not None
     return _range(analysis, found)
 
 
 def symbols(analysis: Analysis) -> list[Symbol]:
-    """The labels, constants and macros of a source."""
+    """Return the labels, constants and macros of a source."""
     found = list[Symbol]()
     for each in analysis.names:
         if each.defines and each.defines != "numeric label":
@@ -84,7 +84,7 @@ def symbols(analysis: Analysis) -> list[Symbol]:
 
 
 def _kind(analysis: Analysis, symbol: Occurrence) -> tuple[int, str]:
-    """The kind of a symbol in an outline, and a word about it."""
+    """Return the kind of a symbol in the protocol, and a detail: its address, or a word for its kind."""
     if symbol.defines == "macro":
         return _METHOD, "macro"
     address = analysis.program.labels.get(symbol.name)
@@ -97,13 +97,13 @@ def _kind(analysis: Analysis, symbol: Occurrence) -> tuple[int, str]:
 
 
 def _same(analysis: Analysis, where: Position) -> Sequence[Occurrence]:
-    """All places of the name at a place."""
+    """Return all places with the name at a position; none if the source defines no such name."""
     found = occurrence_at(analysis, where)
     return [it for it in analysis.names if found and it.name == found.name]
 
 
 def _renameable(analysis: Analysis, where: Position) -> Position:
-    """A place with a name that can be renamed. Raises LabError."""
+    """Return the position unchanged if the name at it can be renamed; otherwise raise LabError."""
     found = occurrence_at(analysis, where)
     if found is None:
         raise LabError("there is no label, constant or macro here")
@@ -113,7 +113,7 @@ def _renameable(analysis: Analysis, where: Position) -> Position:
 
 
 def _check_new_name(analysis: Analysis, name: str) -> None:
-    """Raise LabError unless a label may have this name and none has it."""
+    """Raise LabError if a label can't have this name, or if the name is defined already."""
     if not _NAME.fullmatch(name):
         raise LabError(f"{name} is no name: those begin with a letter or with one of . _ $, and have no spaces")
     if name in REGISTER_NAMES:

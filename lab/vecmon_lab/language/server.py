@@ -1,4 +1,4 @@
-"""The language server: requests and notifications of an editor, one after another, and diagnostics when nothing else waits."""
+"""The language server. It handles an editor's messages one after another, and sends diagnostics while no message is waiting."""
 
 from collections.abc import Callable, Mapping
 from typing import Any
@@ -36,7 +36,7 @@ Params = Mapping[str, Any]
 
 
 class RequestError(LabError):
-    """A request that gets an error as its answer."""
+    """A request is answered with an error. code: the protocol's number of the error"""
 
     def __init__(self, code: int, message: str) -> None:
         super().__init__(message)
@@ -46,7 +46,7 @@ class RequestError(LabError):
 class Server:
     """A server for one editor.
 
-    status: of the process once the editor has sent `exit`; None before
+    status: the exit status after the editor has sent `exit`; None before
     """
 
     def __init__(self, wire: Wire, vecmon: Vecmon) -> None:
@@ -79,7 +79,7 @@ class Server:
         }
 
     def run(self) -> int:
-        """Serve the editor until it ends the session or goes away; the status. Raises LabError for a message without a length."""
+        """Serve the editor until it ends the session or goes away, and return the exit status. Raises LabError for a message without a length."""
         with self._trial:
             while self.status is None:
                 unread = next((each for each in self._documents.values() if not each.is_read), None)
@@ -93,7 +93,7 @@ class Server:
         return self.status
 
     def _receive(self) -> None:
-        """Answer the next message."""
+        """Wait for the next message, and handle it."""
         try:
             received = self._wire.receive()
         except BadContent as error:
@@ -101,7 +101,7 @@ class Server:
             return
         if not isinstance(received, dict) or not isinstance(received.get("method", ""), str):
             self._wire.send(_failure(None, INVALID_REQUEST, "a message is an object with a method"))
-        elif "method" not in received:  # an answer, and the server asks nothing
+        elif "method" not in received:  # a response; the server has sent no request
             return
         elif "id" in received:
             self._wire.send(self._answer(received["id"], received["method"], received.get("params")))
@@ -109,7 +109,7 @@ class Server:
             self._notify(received["method"], received.get("params"))
 
     def _answer(self, number: object, method: str, params: object) -> object:
-        """The answer to a request: its result, or an error."""
+        """Return the response to a request: its result, or an error."""
         try:
             return {"jsonrpc": "2.0", "id": number, "result": self._result(method, params)}
         except RequestError as error:
@@ -129,7 +129,7 @@ class Server:
         return self._requests[method](params if isinstance(params, dict) else {})
 
     def _notify(self, method: str, params: object) -> None:
-        """Take up a notification. One that is unknown or malformed has no answer, by the protocol."""
+        """Handle a notification. The protocol has no response to a notification, so an unknown one is ignored, and a malformed one is logged."""
         if method == "exit" or self._is_initialized and not self._is_shut_down and method in self._notifications:
             try:
                 self._notifications[method](params if isinstance(params, dict) else {})
@@ -172,7 +172,7 @@ class Server:
             self._wire.send(_notification("textDocument/publishDiagnostics", empty))
 
     def _document(self, params: Params) -> Document:
-        """The document that a message names. Raises RequestError."""
+        """Return the open document that a message names. Raises RequestError if it isn't open."""
         uri = params["textDocument"]["uri"]
         if uri not in self._documents:
             raise RequestError(INVALID_PARAMS, f"{uri} isn't open")
@@ -188,7 +188,7 @@ class Server:
         return {"contents": {"kind": "plaintext", "value": text}, "range": found[1]}
 
     def _places(self, params: Params, find: Callable[..., list[Range]], *others: object) -> object:
-        """The places in a document that a function finds."""
+        """Return the ranges that `find` returns for the position of a request, each with the document's URI."""
         document = self._document(params)
         where: Position = params["position"]
         return [{"uri": document.uri, "range": each} for each in find(document.analysis, where, *others)]
@@ -214,7 +214,7 @@ class Server:
 
 
 def _failure(number: object, code: int, message: str) -> object:
-    """The answer to a request that failed: an error in one line."""
+    """Return the response to a request that failed. The message of the error is written in one line."""
     return {"jsonrpc": "2.0", "id": number, "error": {"code": code, "message": " ".join(lines_of(message))}}
 
 

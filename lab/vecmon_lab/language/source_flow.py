@@ -1,4 +1,4 @@
-"""The flow of a source: its program, with the machine's words, as the code whose vector types and lengths are found."""
+"""The vector types and lengths before the instructions of a source, from its program and the machine's words."""
 
 import functools
 from collections.abc import Iterator, Mapping, Sequence
@@ -17,12 +17,12 @@ from ..tables.table import read_table
 
 _JUMPS = (BRANCH, JALR, JAL)
 _NOP = 0x13  # addi x0, x0, 0
-_ROOM = 16  # the most words of a place where instructions are missing
+_ROOM = 16  # the most words in a gap between instructions
 _WORD_BYTES = 4
 
 
 def flow_of_source(program: Program, words: Mapping[int, int], plain: Sequence[str]) -> Flow:
-    """The flow of a source.
+    """Return the vector states of a source.
 
     words: of its instructions, by address, without those that the machine refuses
     plain: its lines without comments
@@ -31,7 +31,7 @@ def flow_of_source(program: Program, words: Mapping[int, int], plain: Sequence[s
 
 
 def _code(program: Program, words: Mapping[int, int], plain: Sequence[str]) -> Code:
-    """The program's code, with words that other directives than instructions lay."""
+    """Return the code of a program, with the words that its data directives write."""
     laid: dict[int, int | None] = dict(_data_words(program))
     for statement in program.statements:
         word = words.get(statement.address)
@@ -46,7 +46,10 @@ def _code(program: Program, words: Mapping[int, int], plain: Sequence[str]) -> C
 
 
 def _entries(program: Program) -> dict[int, VectorState]:
-    """Where the program starts: as a new machine, and at what others call."""
+    """Return the addresses where the program may start, each with the state there.
+
+    The program's entry has the state of a new machine. Exported labels, which other programs may call, have an unknown state.
+    """
     exported = {program.labels[name] for name in program.exported - {"_start"} if name in program.labels}
     entries = {address: UNKNOWN for address in exported}
     if program.statements and ("_start" in program.labels or not exported):
@@ -55,7 +58,7 @@ def _entries(program: Program) -> dict[int, VectorState]:
 
 
 def _gaps(program: Program, plain: Sequence[str]) -> frozenset[int]:
-    """The addresses after lines with a mistake that may be another vector type or a jump."""
+    """Return the addresses that follow a line with a mistake, if the line may set a vector type or jump once the mistake is corrected."""
     lines = sorted({mistake.line for mistake in program.mistakes if not _is_harmless(mistake, plain)})
     gaps, statements = set[int](), sorted(program.statements, key=lambda each: each.line)
     at = 0
@@ -67,14 +70,14 @@ def _gaps(program: Program, plain: Sequence[str]) -> frozenset[int]:
 
 
 def _is_harmless(mistake: SourceError, plain: Sequence[str]) -> bool:
-    """Whether the statements of the line with a mistake can't set a vector type, and don't jump."""
+    """Return whether no statement in the line of a mistake can set a vector type or jump."""
     if not 0 < mistake.line <= len(plain):
         return False
     return all(_keeps_types(name.text) for name in names_of(plain[mistake.line - 1], mistake.line))
 
 
 def names_of(plain: str, number: int) -> Iterator[Token]:
-    """The names of the instructions and directives of a line without comments, after labels."""
+    """Yield the names of the instructions and directives in a line. plain: the line without comments; number: the line's, from 1"""
     for statement in split_line(Line(plain, number)):
         try:
             tokens = tokens_of(statement)
@@ -87,7 +90,7 @@ def names_of(plain: str, number: int) -> Iterator[Token]:
 
 @functools.lru_cache(maxsize=1024)
 def _keeps_types(name: str) -> bool:
-    """Whether an instruction, the start of its name, or one that is meant, can't set a vector type, and doesn't jump."""
+    """Return whether an instruction neither sets a vector type nor jumps. name: its name, the start of a name, or a misspelt name"""
     name = name.lower()
     if name in _other_names() or floating_point(name):
         return True
@@ -97,7 +100,7 @@ def _keeps_types(name: str) -> bool:
 
 @functools.cache
 def _steering_names() -> frozenset[str]:
-    """The names of instructions and pseudo-instructions that set a vector type or jump, and macros' directives."""
+    """Return the names of the instructions and pseudo-instructions that set a vector type or jump."""
     table = instruction_table()
     own = {name for name, row in table.items() if row.opcode in _JUMPS or name.startswith("vset")}
     rows = read_table("pseudo")
@@ -106,20 +109,23 @@ def _steering_names() -> frozenset[str]:
 
 @functools.cache
 def _other_names() -> frozenset[str]:
-    """The names of all other instructions and pseudo-instructions."""
+    """Return the names of all other instructions and pseudo-instructions."""
     names = {*instruction_table(), "li", *(form.split()[0] for form, *_ in read_table("pseudo"))}
     return frozenset(names - _steering_names())
 
 
 def _stand_in(statement: Statement) -> int | None:
-    """The word in place of an instruction that the machine refuses: of a vector instruction one that changes no type."""
+    """Return the word to use in place of an instruction that the machine refuses; None if it is unknown.
+
+    A vector instruction that can change neither the vector type nor a scalar register is replaced by a nop.
+    """
     row = instruction_table().get(statement.text.split()[0])
     is_vector = row is not None and row.opcode in (OP_V, *VECTOR_ACCESSES) and not row.name.startswith("vset")
     return _NOP if row is not None and is_vector and "rd" not in row.fields() else None
 
 
 def _data_words(program: Program) -> Iterator[tuple[int, int]]:
-    """The words that a program's lines write to memory."""
+    """Yield the addresses and values of the words that a program's lines write to memory."""
     for line in program.lines:
         command, *arguments = line.split()
         if command == "poke":
@@ -129,7 +135,7 @@ def _data_words(program: Program) -> Iterator[tuple[int, int]]:
 
 
 def _missing(addresses: Sequence[int]) -> Iterator[int]:
-    """The addresses between these where some instructions are missing."""
+    """Yield the addresses, in short gaps between these, at which instructions may be missing. addresses: of words, in rising order"""
     for before, after in zip(addresses, addresses[1:]):
         if after - before <= _ROOM * _WORD_BYTES:
             yield from range(before + _WORD_BYTES, after, _WORD_BYTES)

@@ -8,23 +8,26 @@ MAX_BYTES = 64_000_000  # of a message
 
 
 class Wire:
-    """The server's end of the pipes, for one thread."""
+    """The server's end of the connection to an editor, for use by one thread."""
 
     def __init__(self, source: int = 0, target: int = 1) -> None:
-        """source, target: file descriptors"""
+        """source, target: the file descriptors to read from and to write to"""
         self._contents, self._target = Contents(source, MAX_BYTES), target
 
     def send(self, message: object) -> None:
-        """Write a message. Raises BrokenPipeError if the client has gone."""
+        """Write a message. Raises BrokenPipeError if the editor has gone."""
         data = message_bytes(message)
         while data:
             data = data[os.write(self._target, data) :]
 
     def receive(self) -> object:
-        """The next message. Raises EOFError if there is none, BadContent, and BadHead."""
+        """Return the next message; wait for it if necessary.
+
+        Raises EOFError if the editor has gone, and BadContent or BadHead for an invalid message.
+        """
         return read_content(self._contents.next())
 
     def is_waiting(self) -> bool:
-        """Whether a message has come already, or the client has gone. Raises BadHead."""
+        """Return whether a message has arrived that `receive` hasn't returned, or the editor has gone. Doesn't wait. Raises BadHead."""
         self._contents.read_arrived()
         return bool(self._contents.waiting) or self._contents.has_ended

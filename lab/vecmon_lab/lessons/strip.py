@@ -18,10 +18,13 @@ Strip = TypedDict("Strip", {"name": str, "text": str, "cells": list[tuple[str, s
 
 
 def strip_of(frames: Sequence[Frame]) -> Strip:
-    """Return the picture of a lesson: the elements of a register after an instruction wrote it.
+    """Return the picture of a lesson: elements of a vector register after the instruction that wrote it.
 
-    The register has as many different kinds of elements as possible (active, masked off and so on), then as many different values, and then
-    is the last one. If no frame changes a register, the picture has words of the program.
+    frames: all frames of the lesson, in order
+
+    Of all registers that a frame changes, the picture shows the one with the most kinds of elements (active, masked off and so on). Of several
+    such registers it shows the one with the most different values, and of these the one that is changed last. If no frame changes a vector
+    register, the picture shows the first words of the program.
     """
     strips = [strip for old, new in pairwise(frames) for strip in _written(old, new)]
     if strips:
@@ -68,7 +71,7 @@ def _changes(data: str, before: str) -> int:
 
 
 def _strip(state: State, number: int) -> Strip:
-    """Return the picture of the first elements of a register. number: of the register
+    """Return the picture of the first elements of a vector register. number: the register's
 
     The elements have the width with which the instruction uses them. If no instruction uses the register, the vector type gives their
     width. The elements of a mask are bits.

@@ -58,10 +58,10 @@ class Commit:
 
 
 class Log:
-    """A log, which can be read once.
+    """Reads a log of another device. The instructions of a log can be read only once.
 
-    end: how the log ends, known after all instructions have been read; end_text: its text, as `SIGILL` or `exit 0`
-    has_calls: whether it contains calls, as with QEMU's -d strace
+    end: how the log ends; end_text: the end in words, such as `SIGILL` or `exit 0`. Both are known after `commits` has yielded all instructions.
+    has_calls: whether the log contains system calls, which QEMU writes with `-d strace`
     """
 
     def __init__(self, lines: Iterable[str]) -> None:
@@ -113,7 +113,7 @@ class Log:
         return commit
 
     def _take_end(self, line: str) -> bool:
-        """Record the program's end, or that it made a call, if a line says so. Return whether the end is known."""
+        """Record the program's end or a system call, if a line reports one. Return whether the end is known."""
         self.has_calls |= bool(_CALL.match(line))
         if end := _END.match(line):
             self.end = Kind.LIMITED if end[1] == "running" else Kind.ENDED

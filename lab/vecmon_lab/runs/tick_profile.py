@@ -135,7 +135,10 @@ class TickProfile:
 
 
 def elements_row(elements: Sequence[int]) -> TableRow:
-    """Return the columns of elements. elements: the numbers of active, masked-off and tail elements"""
+    """Return the cells of a row for the columns of ELEMENTS.
+
+    elements: the numbers of active, masked-off and tail elements; if all are 0, the cells are ""
+    """
     return [*elements, share(elements[0], sum(elements))] if sum(elements) else [""] * len(ELEMENTS)
 
 

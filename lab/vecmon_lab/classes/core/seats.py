@@ -66,7 +66,10 @@ class Seat:
         return self.execution.condition(self.state)
 
     def complete_last_instruction(self, before: State) -> None:
-        """Add what the last instruction read and accessed. before: the registers before it"""
+        """Add the registers that the last instruction read, and the memory that it accessed, to the state and to the part that pages show.
+
+        before: the state before this instruction
+        """
         state, shown = self.state.copy(), self.display.shown.copy()
         add_last_instruction(state, before)
         shown["read"], shown["accessed"] = state["read"], state["accessed"]
@@ -100,7 +103,7 @@ class Seat:
             self.status.set(status)
 
     def restart(self, is_image: bool) -> None:
-        """Reset the source and the execution, since the machine has begun anew. is_image: whether it has an image"""
+        """Reset the source and the execution, since the machine has begun anew. is_image: whether the machine has an image"""
         self.loaded, self.execution = self.loaded.next_start(is_image), Execution()
 
 

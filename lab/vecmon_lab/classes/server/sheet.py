@@ -6,9 +6,11 @@ import segno
 
 
 def pictures(address: str, codes: Mapping[str, str]) -> dict[str, str]:
-    """Return QR codes by name, as data URIs of SVG images.
+    """Return the QR codes of a class as data URIs of SVG images, by name.
 
-    address: of the class; codes: by name. The image of a name has the address with the name's code, the image of "" only the address.
+    address: of the class's page; codes: the code of each name, such as a seat's
+
+    The QR code of a name has the address followed by `#` and the name's code. The name "" has the QR code of the address without a code.
     """
     links = {"": address} | {name: f"{address}#{code}" for name, code in codes.items()}
     return {name: segno.make_qr(link).svg_data_uri(omitsize=True) for name, link in links.items()}

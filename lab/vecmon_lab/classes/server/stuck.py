@@ -1,4 +1,4 @@
-"""Students of a class who may need somebody, and since when, as their programs, tries and headway show."""
+"""Students of a class who may need help, and since when. Their programs, their tries and their progress show this."""
 
 from collections import defaultdict
 from collections.abc import Collection, Mapping
@@ -10,7 +10,7 @@ from .tab import Tab
 
 
 class StuckStudents:
-    """Finds students who may need somebody."""
+    """Finds the students who may need help."""
 
     def __init__(self, students: Mapping[str, Student], exercises: Exercises, tabs: Collection[Tab]) -> None:
         """students: by seat; tabs: the open ones"""
@@ -19,7 +19,7 @@ class StuckStudents:
         self._stuck: list[str] = []  # the seats at the last look
 
     def since(self, seat: str) -> float | None:
-        """Return since when a seat's student may need somebody, in seconds since 1970; None if the student doesn't."""
+        """Return since when the student at a seat may need help, in seconds since 1970; None if the student isn't stuck."""
         student = self._students[seat]
         status, source = student.seat.status, student.source
         by_exercise = self._exercises.stuck_since(seat, source.exercise, source.opened)
@@ -28,7 +28,7 @@ class StuckStudents:
         return min((since for since in times if since is not None), default=None)
 
     def look(self) -> bool:
-        """Take up the headway of all students at their exercises; return whether the list of stuck students has changed."""
+        """Record the progress of all students who work at an exercise, and update the list of stuck students. Return whether the list has changed."""
         for name, student in self._students.items():
             if not self._is_at_work(name):
                 self._headway[name].restart()
