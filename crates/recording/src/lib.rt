@@ -31,7 +31,7 @@ pub use hart::SingleSlot;
 pub use key::Key;
 pub use laws::recording_laws;
 pub use machine::SingleUserMachine;
-pub use open_chooser::{Open, OpenChooser};
+pub use open_chooser::{Open, OpenChooser, has_run, open_at};
 pub use recorder::Recorder;
 pub use recorder_pair::RecorderPair;
 pub use retired::Retired;

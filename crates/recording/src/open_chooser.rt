@@ -55,7 +55,7 @@ impl OpenChooser {
 }
 
 /// Return whether an instruction with this end retired.
-fn has_run(end: StepEnd) -> bool
+pub fn has_run(end: StepEnd) -> bool
     ensures { result ≡ has_run end }
 {
     matches!(end, StepEnd::Ran)
@@ -93,7 +93,7 @@ fn open_vector(instr: &VectorInstr, scalar: &Scalar, state: &VState) -> Open
 }
 
 /// Return what the instruction at the program counter leaves open. The value is unspecified if a fetch isn't allowed.
-fn open_at<M: UserBytes>(machine: &SingleUserMachine<M>) -> Open
+pub fn open_at<M: UserBytes>(machine: &SingleUserMachine<M>) -> Open
     ensures { IsOpenAt (state_of M.memory machine.now) result }
 {
     let state = &machine.vectors.seat.state;
