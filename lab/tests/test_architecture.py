@@ -1,4 +1,4 @@
-"""The rooms of the lab, modules of a class and folders of pages, as in docs/LAB_ARCHITECTURE.md: each uses only those above it."""
+"""Packages of the lab, modules of a class and of the assembler, folders of pages: each uses only those above it in LAB_ARCHITECTURE.md."""
 
 import ast
 import pathlib
@@ -54,6 +54,13 @@ def test_class_modules_import_only_modules_above() -> None:
     assert misplaced(core + server) == []
     assert misplaced([*core[:-2], core[-1], core[-2]]) == [CORE[-1]]
     assert misplaced([*server, *core])
+
+
+def test_assembler_modules_import_only_modules_above() -> None:
+    order = names_in("## The assembler")
+    assert sorted(order) == sorted(path.stem for path in (LAB / "assembler").glob("[a-z]*.py"))
+    for place, module in enumerate(order):
+        assert imported(LAB / "assembler" / f"{module}.py", 1) <= set(order[:place]), module
 
 
 def test_folders_of_pages_import_only_folders_above() -> None:

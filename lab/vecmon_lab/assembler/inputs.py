@@ -6,7 +6,6 @@ monitor, as `#> set x10 5`.
 """
 
 import re
-import struct
 from collections.abc import Mapping
 from dataclasses import dataclass, field, replace
 from difflib import get_close_matches
@@ -16,35 +15,15 @@ from ..instructions.accesses import LINE_BYTES, PAGE_BYTES
 from ..instructions.table import REGISTERS
 from ..machine.lines import check_text
 from .commands import COMMANDS
-from .data_runs import DataRun, DataType
+from .data_runs import DataRun
 from .line import SourceError
+from .number_types import NUMBER_TYPES
 from .sections import USER_PAGES
 from .source import Program, in_order
 
 ARRAYS = 0x20_0000
 """The address of the first array. Each array has its own pages; no program reaches these addresses."""
 
-_LETTERS = {
-    "i8": "b",
-    "u8": "B",
-    "i16": "h",
-    "u16": "H",
-    "i32": "i",
-    "u32": "I",
-    "i64": "q",
-    "u64": "Q",
-}  # codes of the module struct
-_TYPES: Mapping[str, DataType] = {
-    "i8": "i8",
-    "u8": "u8",
-    "i16": "i16",
-    "u16": "u16",
-    "i32": "i32",
-    "u32": "u32",
-    "i64": "i64",
-    "u64": "u64",
-    "text": "text",
-}
 FORM = "#> a0 = 5, or #> a0 = i32 3, 1, 4"
 
 _SET_UP = (
@@ -188,7 +167,10 @@ def _read_input(inputs: Inputs, number: int, line: str, labels: Mapping[str, int
 
 def _run(kind: str, size: int) -> DataRun:
     """Return the type and the count of the numbers in an array. size: of the array, in bytes"""
-    return DataRun(_TYPES[kind], size if kind == "text" else size // struct.calcsize(_LETTERS[kind]))
+    if kind == "text":
+        return DataRun("text", size)
+    numbers = NUMBER_TYPES[kind]
+    return DataRun(numbers.name, size // numbers.size)
 
 
 def _scalar(number: int, column: int, text: str, labels: Mapping[str, int]) -> int:
@@ -221,7 +203,7 @@ def _data(number: int, column: int, kind: str, count: int, text: str, room: int)
         if len(data) > room:
             raise too_large
         return data
-    size = struct.calcsize(_LETTERS[kind])
+    numbers = NUMBER_TYPES[kind]
     parts = [(part.end() - len(part[0].lstrip()), part[0].strip()) for part in re.finditer("[^,]+", text)]
     values = [_element(number, column + start, kind, part) for start, part in parts if part]
     if not values and not count:
@@ -230,16 +212,14 @@ def _data(number: int, column: int, kind: str, count: int, text: str, room: int)
         )
     if count and len(values) > count:
         raise SourceError(number, column, f"{len(values)} numbers are more than {count}")
-    if max(count, len(values)) * size > room:
+    if max(count, len(values)) * numbers.size > room:
         raise too_large
-    return struct.pack(f"<{len(values)}{_LETTERS[kind]}", *values).ljust(count * size, b"\0")
+    return numbers.packed(values).ljust(count * numbers.size, b"\0")
 
 
 def _element(number: int, column: int, kind: str, text: str) -> int:
     """Return a number of an array. Raises SourceError."""
-    bits = int(kind[1:])
-    minimum = -(1 << bits - 1) if kind[0] == "i" else 0
-    maximum = minimum + (1 << bits) - 1
+    minimum, maximum = NUMBER_TYPES[kind].minimum, NUMBER_TYPES[kind].maximum
     if not _NUMBER.fullmatch(text):
         raise SourceError(number, column, f"{text} is no number")
     value = int(text) if text.lstrip("+-").isdecimal() else int(text, 0)

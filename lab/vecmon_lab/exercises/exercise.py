@@ -1,7 +1,6 @@
 """Exercises (exercise.toml): the text for students, an answer's input, the expected results, and the limits."""
 
 import pathlib
-import struct
 from collections import Counter
 from collections.abc import Iterator, Mapping, Sequence
 from dataclasses import dataclass, replace
@@ -9,6 +8,7 @@ from difflib import get_close_matches
 from types import SimpleNamespace
 
 from .. import LabError, mistakes_in
+from ..assembler.number_types import NUMBER_TYPES
 from ..guest.guest import IMAGE_BYTES
 from ..instructions.table import REGISTERS
 from ..tables.table import read_table
@@ -24,16 +24,6 @@ ADDRESSES = 0x10000  # a value from here on may be an address
 
 _NAMES = {bool: "true or false", int: "a number", str: "a text", list: "a list", dict: "a table"}
 _REGISTERS = REGISTERS | {f"x{number}": f"x{number}" for number in range(32)}
-_FORMATS = {
-    "i8": "b",
-    "u8": "B",
-    "i16": "h",
-    "u16": "H",
-    "i32": "i",
-    "u32": "I",
-    "i64": "q",
-    "u64": "Q",
-}  # codes of the module struct
 
 
 @dataclass(frozen=True)
@@ -47,11 +37,11 @@ class Numbers:
     @property
     def data(self) -> bytes:
         """Return the bytes of the numbers."""
-        return struct.pack(f"<{len(self.numbers)}{_FORMATS[self.type]}", *self.numbers)
+        return NUMBER_TYPES[self.type].packed(self.numbers)
 
     def holding(self, data: bytes) -> "Numbers":
         """Return the same place, with the numbers that these bytes contain."""
-        return replace(self, numbers=struct.unpack(f"<{len(self.numbers)}{_FORMATS[self.type]}", data))
+        return replace(self, numbers=NUMBER_TYPES[self.type].unpacked(data))
 
 
 @dataclass(frozen=True)
@@ -281,14 +271,11 @@ def _numbers(where: str, entries: Mapping[object, object], by_reference: bool) -
     match [*entries.items()]:
         case [("text", str(text))] if not by_reference:
             return "u8", [*text.encode()]
-        case [(str(kind), int(count))] if by_reference and kind in _FORMATS:
+        case [(str(kind), int(count))] if by_reference and kind in NUMBER_TYPES:
             return kind, [0] * min(count, PLACE_BYTES + 1)
-        case [(str(kind), list(numbers))] if not by_reference and kind in _FORMATS:
-            bits = int(kind[1:])
-            minimum = -(1 << bits - 1) if kind[0] == "i" else 0
-            invalid = [
-                number for number in numbers if type(number) is not int or not minimum <= number < minimum + (1 << bits)
-            ]
+        case [(str(kind), list(numbers))] if not by_reference and kind in NUMBER_TYPES:
+            minimum, maximum = NUMBER_TYPES[kind].minimum, NUMBER_TYPES[kind].maximum
+            invalid = [number for number in numbers if type(number) is not int or not minimum <= number <= maximum]
             if not invalid:
                 return kind, numbers
             raise LabError(f"{where}: {shown(invalid[0])} is no {kind}")
