@@ -1,4 +1,4 @@
-"""The program under test: where it is, its output and status, and the answers to each line of a
+"""The program under test: its path, its output and status, and the answers to each line of a
 script."""
 
 import os

@@ -1,4 +1,4 @@
-"""The built site for tests: where it is, its parts, a server of files, and tabs of its pages."""
+"""The built site for tests: its folder, its parts, a server of files, and tabs of its pages."""
 
 import contextlib
 import functools

@@ -76,8 +76,8 @@ def stepped_changes(image: pathlib.Path, places: Sequence[Place], most: int) -> 
 def _numbers(retired: Retired, found: ControlRegisters, vl: int, v0: bytes) -> tuple[tuple[int, ...], bool]:
     """Once, ticks, and elements, by what an instruction found and the length that it left; and whether it has any.
 
-    A load or store takes a tick for each element of its body, and a fault-only-first load one for the element that it
-    tried in vain.
+    A load or store takes a tick for each element of its body, and a fault-only-first load one for the element at
+    which it faulted.
     """
     is_access = retired.word & 0x7F in VECTOR_ACCESSES
     elements = elements_of(retired.word, replace(found, vl=vl) if is_access else found, v0)

@@ -30,7 +30,7 @@ PROGRAMS = {
     "vecmon": f"{TOP}/crates/vecmon/out/vecmon",
     "vecmon-record": f"{TOP}/crates/vecmon_record/out/vecmon_record",
 }
-ENTRIES = (b"vecmon::main", b"vecmon_record::main")  # functions of these programs alone
+ENTRIES = (b"vecmon::main", b"vecmon_record::main")  # functions of only these programs
 
 
 def digest(file: str) -> str:

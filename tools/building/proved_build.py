@@ -46,7 +46,7 @@ def crates_below(tops: Iterable[str], used: Mapping[str, Sequence[str]]) -> list
 
 
 def copy_sources(crates: Sequence[str], text: str, folder: str) -> None:
-    """Makes the folder a repository of these crates alone. The results of rt in out/ stay there."""
+    """Makes the folder a repository of only these crates. The results of rt in out/ stay there."""
     os.makedirs(f"{folder}/crates", exist_ok=True)
     for name in set(os.listdir(f"{folder}/crates")) - set(crates):
         shutil.rmtree(f"{folder}/crates/{name}")
@@ -76,7 +76,7 @@ def seconds_of_proofs() -> dict[str, int]:
 def calculated_end(
     crates: Iterable[str], used: Mapping[str, Sequence[str]], seconds: Mapping[str, int], jobs: int
 ) -> int:
-    """Returns the second at which the last proof ends. As in rt, a crate takes a job in the order of what is below it, and waits there."""
+    """Returns the second at which the last proof ends. As in rt, a crate takes a job in the order of the crates that it uses, and waits there."""
     free, ends = [0] * jobs, dict[str, int]()
     for name in sorted(sorted(crates), key=lambda crate: len(crates_below([crate], used))):
         free.sort()

@@ -291,7 +291,7 @@ async def test_archive_contains_answers(room: Served) -> None:
 
 
 async def home(room: Served, seat: str) -> dict[str, str]:
-    """The texts of what a seat takes home, by name, but the file for the playground."""
+    """The texts of the files that a seat takes home, by name, without the file for the playground."""
     status, data = await room.get(f"{seat}/home", seat)
     assert status == 200, data
     with zipfile.ZipFile(io.BytesIO(data)) as packed:
@@ -410,7 +410,7 @@ async def test_compile_errors_do_not_count_as_try(
 
 
 async def test_exercise_limits_apply_to_c(tmp_path: pathlib.Path, sandboxed_clang: Compiler) -> None:
-    """Loops get vectors where the source asks for them alone, so a plain one takes too long; so does one without end."""
+    """Only loops for which the source asks are vectorised, so a plain loop takes too long; so does one without end."""
     folder = OURS / "saturating_sum"
     async with served(tmp_path / "class", exercises=[folder], builds=Builds(sandboxed_clang)) as room:
         tab = await room.sit("A1")

@@ -98,7 +98,7 @@ def test_batch_is_flushed_in_order(tmp_path: pathlib.Path, recorded: Recorded) -
 
 
 def test_busy_class_takes_few_syncs(tmp_path: pathlib.Path, recorded: Recorded) -> None:
-    """A second after it was acknowledged everything of 30 busy seats is on the disk, where one sync takes 10 ms.
+    """A second after it was acknowledged everything of 30 busy seats is on the disk, if one sync takes 10 ms.
 
     Something is acknowledged just after a batch has begun, and a draft is passed on up to 0.3 s later.
     """

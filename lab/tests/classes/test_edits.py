@@ -54,7 +54,7 @@ def test_value_that_does_not_fit_is_refused(edit: str, text: str, kind: str) -> 
         "vset v1 8 32 signed",
         "vset v2 8 0 signed",
         "vset v1 512 0 signed",
-        f"vset v1 {10**30} 0 signed",  # no number has so many bits
+        f"vset v1 {10**30} 0 signed",  # a width that no element has
         "setpc 0",
     ],
 )

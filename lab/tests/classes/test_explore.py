@@ -1,4 +1,4 @@
-"""`explore`: a private page for a source, served to this computer alone."""
+"""`explore`: a private page for a source, served only to this computer."""
 
 import asyncio
 import os

@@ -110,7 +110,7 @@ def test_state_has_elements_of_last_instruction(desk: Desk) -> None:
 def test_element_0_of_a_register_has_no_group(
     desk: Desk, types: str, text: str, outcomes: list[tuple[str, int]]
 ) -> None:
-    """vl is 3. Element 0 is read or written alone, and LMUL doesn't count for vmv.x.s and vmv.s.x (section 16.1)."""
+    """vl is 3. Only element 0 is read or written, and LMUL doesn't count for vmv.x.s and vmv.s.x (section 16.1)."""
     code = [f"asm 10000 vsetivli x0, 3, {types}, ta, ma", f"asm 10004 {text}", "vset v0 02" + "00" * 31]
     ask(desk, ask="lines", do=["leave", "enter", "map 10000 1 rwx", *code, "setpc 10000"])
     step(desk, 2)

@@ -15,7 +15,7 @@ pytestmark = pytest.mark.asyncio
 
 
 async def test_message_is_unread_until_read(tmp_path: pathlib.Path) -> None:
-    """It survives a restart of the server; a seat marks its own alone, in all its tabs, and the teacher sees who has read it."""
+    """It survives a restart of the server; a seat marks only its own, in all its tabs, and the teacher sees who has read it."""
     folder, started = tmp_path / "class", int(time.time())
     async with served(folder) as room:
         tab, teacher = await room.sit("A1"), await room.sit("teacher")
@@ -135,7 +135,7 @@ async def test_seat_has_its_last_messages(tmp_path: pathlib.Path) -> None:
 
 
 async def test_messages_by_seat_are_read(tmp_path: pathlib.Path, program: pathlib.Path) -> None:
-    """As earlier versions saved them, with open messages alone."""
+    """As earlier versions saved them, with only the open messages."""
     folder = tmp_path / "class"
     async with served(folder):
         pass

@@ -89,7 +89,7 @@ async def wait_for_steps(room: Served, image: pathlib.Path, program: pathlib.Pat
         assert time.monotonic() < end
         await asyncio.sleep(0.3)
         number += 1
-        copy = image.with_name(f"later{number}")  # a new file, of which no loop device has old blocks
+        copy = image.with_name(f"later{number}")  # a new file, so that no loop device has its old blocks
         cut(room, image, copy)
         counts = check(copy, program, [0] * len(steps))
         copy.unlink()

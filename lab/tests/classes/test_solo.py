@@ -1,4 +1,4 @@
-"""One student's part of a class: random classes, replayed alone to the same lines."""
+"""One student's part of a class: random classes, replayed for one student to the same lines."""
 
 import pathlib
 import random

@@ -114,7 +114,7 @@ async def test_sheet_has_qr_codes(room: Served) -> None:
     assert room.members
     room.members.address = "http://class.school.example/"
     pictures = (await teacher.ask("codes", seat="", pictures=True))["pictures"]
-    assert len(pictures) == 18 == len(set(pictures.values())) and "" in pictures  # of the address alone
+    assert len(pictures) == 18 == len(set(pictures.values())) and "" in pictures  # the address without a code
     assert all(picture.startswith("data:image/svg+xml;") and len(picture) < 4000 for picture in pictures.values())
     assert (await teacher.ask("codes", seat="A1"))["pictures"] == {}
 

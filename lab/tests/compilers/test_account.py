@@ -1,4 +1,4 @@
-"""Root compiles others' sources as the user of `--as`: who that is, what the user's processes have, and refusals."""
+"""Root compiles others' sources as the user of `--as`: the choice of the user, the limits of the user's processes, and refusals."""
 
 import asyncio
 import json

@@ -1,4 +1,4 @@
-"""Failures of the sandbox, of compilers and of what they need: each has its own sentence, and none is a fault of the source."""
+"""Failures of the sandbox, of compilers and of their tools: each has its own sentence, and none is a fault of the source."""
 
 import asyncio
 import contextlib

@@ -237,7 +237,7 @@ def test_excess_variables_are_omitted(answer: Ask) -> None:
 
 
 def elf(headers: list[bytes]) -> bytes:
-    """An image with these program headers alone."""
+    """An image with only these program headers."""
     head = (
         b"\x7fELF\2\1\1"
         + bytes(9)

@@ -83,7 +83,7 @@ def test_list_covers_imports() -> None:
 
 
 def test_only_listed_files_exist_in_sandbox(inside: Inside) -> None:
-    """Of the lab there are the modules of the list, and elsewhere programs, libraries, headers and Python alone."""
+    """The sandbox has the listed modules of the lab, and otherwise only programs, libraries, headers and Python."""
     found = inside(WALK, [])
     of_lab = {path for path in found if path.startswith(f"{PLACE}/") and not path.startswith(f"{PLACE}/elftools/")}
     assert of_lab == {f"{PLACE}/{module}" for module in MODULES}

@@ -1,4 +1,4 @@
-"""One user's program: its output, how it ends, where it is cut, and its arguments."""
+"""One user's program: its output and the place of a cut, how it ends, and its arguments."""
 
 import pathlib
 import re

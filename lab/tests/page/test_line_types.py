@@ -1,4 +1,4 @@
-"""The vector types beside the lines of a source, in a seat's editor and in a lesson, in Chromium."""
+"""The vector types next to the lines of a source, in a seat's editor and in a lesson, in Chromium."""
 
 import pathlib
 from typing import TYPE_CHECKING, Any
@@ -89,7 +89,7 @@ def test_switch_is_stored(sit: Sit) -> None:
 
 
 def test_lesson_has_types(browser: "Chrome", program: pathlib.Path, tmp_path: pathlib.Path) -> None:
-    """At every width; a screen reader isn't told them, and the switch takes them away. A script without a source has none."""
+    """At every width; a screen reader doesn't read them, and the switch takes them away. A script without a source has none."""
     page = lesson_page(
         "Types", make_frames(read_assembled(SOURCE, "types.s"), program), read_assembled(SOURCE, "types.s")
     )

@@ -44,7 +44,7 @@ MEANINGS = {code: _plain(meaning) for code, meaning, _ in _REFUSALS}
 def help_on(name: str) -> list[str]:
     """Return lines about a command (its form, its effect and its refusals) or about a refusal's code.
 
-    name: a command or a code; an empty name stands for all commands: their forms, a line for each section
+    name: a command or a code; an empty name selects all commands: their forms, a line for each section
     """
     if not name:
         sections = itertools.groupby(_COMMANDS, operator.itemgetter(0))

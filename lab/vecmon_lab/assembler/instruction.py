@@ -138,7 +138,7 @@ class Instruction:
     """An instruction or pseudo-instruction with its expansion. Its operands are evaluated when sections have their bases.
 
     place: its address; templates: its expansion, one for each machine instruction
-    line, column: where it starts in the line that executes it; for the body of a macro, that is the line that calls the macro
+    line, column: of its start, in the line that executes it; for the body of a macro, that is the line that calls the macro
     """
 
     name: Token

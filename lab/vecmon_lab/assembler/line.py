@@ -52,7 +52,7 @@ class SourceError(LabError):
     """A mistake in a source, with its line and column.
 
     code: the machine's refusal, or ""; fix: texts that may replace the token at the mistake, the nearest one first
-    name: the name that isn't defined, of which only the first use is reported; "" for other mistakes
+    name: the name that isn't defined, whose first use is the only one reported; "" for other mistakes
     """
 
     name = ""

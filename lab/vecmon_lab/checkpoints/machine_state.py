@@ -42,7 +42,7 @@ class User:
 
     image: the name of the loaded image, or ""
     maps: the address, number of pages and permission of each `map` since the image was loaded
-    has_area: whether the vector unit has a save area with the user's state; from lines alone, whether there was a `vset`
+    has_area: whether the vector unit has a save area with the user's state; from lines only, whether there was a `vset`
     pages: permissions by the addresses of pages
     """
 

@@ -41,7 +41,7 @@ class Layout:
     entry: "DIE"
 
     def declaration(self, name: str = "") -> str:
-        """Return the declaration of a name with this type, such as `struct pair *x`; without a name, that of the type alone."""
+        """Return the declaration of a name with this type, such as `struct pair *x`; without a name, only that of the type."""
         return self._read(lambda: " ".join(declaration(self.entry, name).split()), name)
 
     @cached_property

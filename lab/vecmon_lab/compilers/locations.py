@@ -20,7 +20,7 @@ Operation = tuple[int, str, list[int], int]
 """An operation in pyelftools' form: its code, its name, its arguments, and its offset."""
 
 Sum = tuple[int, int]
-"""The number of a scalar register, and a number that is added to it. With register 0 it is the number alone."""
+"""The number of a scalar register, and a number that is added to it. With register 0 it is just the number."""
 
 
 class Location(NamedTuple):

@@ -113,7 +113,7 @@ def state_of(guest: Guest) -> tuple[str, int]:
 
 
 def remedy_of(word: str) -> str:
-    """Return the end of a message about an unknown command: what to type instead; "" if the command exists."""
+    """Return the end of a message about an unknown command: the command to type instead; "" if the command exists."""
     if word in COMMANDS or f"* {word}" in COMMANDS:
         return ""
     name = word.partition("/")[0]  # x/4w

@@ -39,7 +39,7 @@ def sample(row: Row) -> VectorInstruction | None:
 
 @functools.cache
 def examples() -> dict[str, tuple[str, str, str]]:
-    """Return the example of each family of vector instructions: its text, what it reads and writes before, and the same after it."""
+    """Return the example of each family of vector instructions: its text, the values that it reads and writes before it runs, and the same values after it."""
     return {name: (text, before, after) for name, text, before, after in read_table("instruction_examples")}
 
 

@@ -55,7 +55,7 @@ class Desk:
     """A seat, its machine and the exercises.
 
     no_c, refusal_of_c: the reason why sources in C aren't compiled, and the message before it
-    stopper: the name, in messages, of what stops a program that runs too long
+    stopper: the noun that messages have for the part of the lab that stops a program, such as `page`
     own_slices: whether the page offers to grant slices to a running program
     limit: the approximate number of ticks that a program may run without a stop
     """

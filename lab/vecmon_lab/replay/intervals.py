@@ -17,7 +17,7 @@ class Interval:
 
     start: the size in bytes of the part of the script that brings a machine to the first instruction
     count: the number of instructions; None if slices executed them and they aren't counted yet
-    ticks: the ticks of these slices, at least as many as the instructions take
+    ticks: the ticks of these slices, an upper bound of the ticks that the instructions take
     breaks: the user's breakpoints at the start, and also during the slices
     has_stopped: whether the program stopped by itself after the last instruction
     continues: whether the interval follows the one before it, and no line wrote registers or memory between them

@@ -32,7 +32,7 @@ export function offerTextSizes(/** @type {HTMLSelectElement} */ list) {
   apply();
 }
 
-/** Offers vector types beside the lines of a source by a box, and applies the stored choice. */
+/** Offers vector types next to the lines of a source by a box, and applies the stored choice. */
 export function offerLineTypes(/** @type {HTMLInputElement} */ box) {
   const apply = () => document.documentElement.classList.toggle("untyped", !box.checked);
   box.checked = stored(LINE_TYPES) ?? true;

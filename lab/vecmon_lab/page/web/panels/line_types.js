@@ -17,7 +17,7 @@ export function lineTypeText(/** @type {LineType} */ { types, vl }) {
   return vl === undefined ? textOf("types.most", known) : textOf("types.length", known);
 }
 
-/** The names of types; with their policies where these alone distinguish two of them. */
+/** The names of types; with their policies if only these distinguish two of them. */
 function distinctNames(/** @type {import("../common/words").VectorType[]} */ types) {
   const names = types.map(typeName);
   return new Set(names).size === names.length ? names : types.map(typeText);
