@@ -7,6 +7,7 @@ import re
 import select
 import subprocess
 import sys
+import threading
 from collections.abc import Mapping, Sequence
 from types import TracebackType
 from typing import Any
@@ -14,15 +15,17 @@ from typing import Any
 from support.busy_host import PATIENCE
 from support.places import TOP
 from support.terminal import MAX_SECONDS
+from vecmon_lab.adapter.session import Session
+from vecmon_lab.adapter.wire import Wire
 
 DAP = [sys.executable, "-m", "vecmon_lab", "dap"]
 Body = dict[str, Any]
 
 
 class Client:
-    """A client. Events that come while it waits for something else are kept in `events`.
+    """A client of a debug adapter. Events that arrive while it waits for something else are stored in `events`.
 
-    lines: what `where` returns of a frame
+    program: the process of the adapter, if `started` has started one
     """
 
     def __init__(self, source: int, target: int, program: "subprocess.Popen[bytes] | None" = None) -> None:
@@ -30,14 +33,28 @@ class Client:
         self.events = list[Body]()
         self._source, self._target, self.program = source, target, program
         self._number, self._unread = 0, b""
+        self._thread: threading.Thread | None = None
 
     @classmethod
     def started(cls, **settings: Any) -> "Client":
-        """A client of an adapter that is started for it."""
+        """Start the command `vecmon-lab dap`, and return its client. Tests of the command itself need this: of pipes, signals, its end."""
         pipe = subprocess.PIPE
         program = subprocess.Popen(DAP, cwd=TOP, stdin=pipe, stdout=pipe, stderr=pipe, bufsize=0, **settings)
         assert program.stdin and program.stdout
         return cls(program.stdout.fileno(), program.stdin.fileno(), program)
+
+    @classmethod
+    def in_thread(cls) -> "Client":
+        """Start a session in a thread of this process, and return its client.
+
+        The session is that of the command. Python doesn't start for it, and imports no modules again, which takes most of the
+        processor time of a short session.
+        """
+        (requests, target), (source, answers) = os.pipe(), os.pipe()
+        client = cls(source, target)
+        client._thread = threading.Thread(target=_serve, args=(requests, answers), daemon=True)
+        client._thread.start()
+        return client
 
     def __enter__(self) -> "Client":
         return self
@@ -45,6 +62,11 @@ class Client:
     def __exit__(
         self, kind: type[BaseException] | None, error: BaseException | None, trace: TracebackType | None
     ) -> None:
+        if self._thread:
+            os.close(self._target)
+            os.close(self._source)
+            self._thread.join(PATIENCE)
+            assert not self._thread.is_alive(), "the session goes on without its client"
         if not self.program:
             return
         for pipe in (self.program.stdin, self.program.stdout, self.program.stderr):
@@ -161,6 +183,20 @@ class Client:
     def value(self, expression: str, **settings: Any) -> str:
         """The value of an expression."""
         return str(self.ask("evaluate", expression=expression, **settings)["result"])
+
+
+def _serve(source: int, target: int) -> None:
+    """Serve a client over two pipes, as the command does over standard input and output. Closes them."""
+
+    def write(data: bytes) -> None:
+        while data:
+            data = data[os.write(target, data) :]
+
+    try:
+        Session(Wire(source, write)).serve()
+    finally:
+        os.close(source)
+        os.close(target)
 
 
 def line_of(path: pathlib.Path, text: str, number: int = 0) -> int:

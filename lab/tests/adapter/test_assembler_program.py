@@ -34,12 +34,17 @@ twice:  slli a0, a0, 1
 @pytest.fixture
 def client() -> Iterator[Client]:
     """A client whose program is stopped at its first line, with a breakpoint at the multiplication."""
-    with Client.started() as client:
-        client.launch(SOURCE, stopOnEntry=True)
-        (found,) = client.lines(SOURCE, MULTIPLY)
-        assert found["verified"] and found["line"] == MULTIPLY and found["source"]["path"] == f"{SOURCE}"
-        assert client.begin()["reason"] == "entry" and client.where()[1] == FIRST
+    with Client.in_thread() as client:
+        begin(client)
         yield client
+
+
+def begin(client: Client) -> None:
+    """Launch the program, which stops at its first line, with a breakpoint at the multiplication."""
+    client.launch(SOURCE, stopOnEntry=True)
+    (found,) = client.lines(SOURCE, MULTIPLY)
+    assert found["verified"] and found["line"] == MULTIPLY and found["source"]["path"] == f"{SOURCE}"
+    assert client.begin()["reason"] == "entry" and client.where()[1] == FIRST
 
 
 def elements(client: Client, name: str, scope: str = "Vector registers") -> list[Body]:
@@ -59,17 +64,19 @@ def moves(client: Client, *commands: str) -> list[tuple[str, int]]:
 
 
 @pytest.mark.by_command("dap")
-def test_lines_are_stepped_forwards_and_backwards(client: Client) -> None:
-    assert moves(client, "next", "next", "stepIn", "stepBack", "stepBack") == [
-        ("step", FIRST + each) for each in (1, 2, 3, 2, 1)
-    ]
-    assert moves(client, "stepBack", "stepBack") == [("step", FIRST), ("entry", FIRST)]
-    assert client.value("pc") == "65536 (0x10000)"
-    client.move("next")
-    client.move("stepIn", granularity="instruction")  # the second word of `la`
-    assert client.where()[1] == FIRST + 1 and client.value("pc") == "65544 (0x10008)"
-    client.move("stepBack", granularity="instruction")
-    assert client.value("pc") == "65540 (0x10004)"
+def test_lines_are_stepped_forwards_and_backwards() -> None:
+    with Client.started() as client:
+        begin(client)
+        assert moves(client, "next", "next", "stepIn", "stepBack", "stepBack") == [
+            ("step", FIRST + each) for each in (1, 2, 3, 2, 1)
+        ]
+        assert moves(client, "stepBack", "stepBack") == [("step", FIRST), ("entry", FIRST)]
+        assert client.value("pc") == "65536 (0x10000)"
+        client.move("next")
+        client.move("stepIn", granularity="instruction")  # the second word of `la`
+        assert client.where()[1] == FIRST + 1 and client.value("pc") == "65544 (0x10008)"
+        client.move("stepBack", granularity="instruction")
+        assert client.value("pc") == "65540 (0x10004)"
 
 
 def test_run_goes_through_breakpoints_both_ways(client: Client) -> None:
@@ -109,7 +116,7 @@ def test_tail_follows_vl(client: Client) -> None:
 def test_groups_follow_the_vector_type(tmp_path: pathlib.Path) -> None:
     source = tmp_path / "groups.s"
     source.write_text("vsetivli x0, 9, e16, m4, ta, ma\nvid.v v8\nvsetivli x0, 2, e64, mf2, ta, ma\nebreak\n")
-    with Client.started() as client:
+    with Client.in_thread() as client:
         client.launch(source, stopOnEntry=True)
         client.begin()
         assert len(client.rows(client.scope("Vector registers"))) == 32
@@ -172,7 +179,7 @@ def test_conditions_and_messages_decide_whether_a_breakpoint_stops(client: Clien
 def test_breakpoints_above_16_arent_verified(tmp_path: pathlib.Path) -> None:
     source = tmp_path / "many.s"
     source.write_text("addi x5, x5, 1\n" * 20 + "ebreak\n")
-    with Client.started() as client:
+    with Client.in_thread() as client:
         client.launch(source, stopOnEntry=True)
         found = client.lines(source, *range(2, 20))
         assert [each["verified"] for each in found] == [True] * 16 + [False] * 2
@@ -204,7 +211,7 @@ def test_line_without_instructions_has_the_breakpoint_of_the_next_one(client: Cl
 def test_calls_are_passed_entered_and_left(tmp_path: pathlib.Path) -> None:
     source = tmp_path / "calls.s"
     source.write_text(CALLS)
-    with Client.started() as client:
+    with Client.in_thread() as client:
         client.launch(source, stopOnEntry=True)
         client.begin()
         assert moves(client, "next", "next") == [("step", 3), ("step", 4)] and client.value("a0") == "2 (0x2)"
@@ -227,7 +234,7 @@ def test_calls_are_passed_entered_and_left(tmp_path: pathlib.Path) -> None:
 def test_step_passes_a_loop_that_is_one_line(tmp_path: pathlib.Path) -> None:
     source = tmp_path / "loop.s"
     source.write_text("li t0, 200\nloop: addi t0, t0, -1; addi t1, t1, 2; bnez t0, loop\nli a0, 1\nebreak\n")
-    with Client.started() as client:
+    with Client.in_thread() as client:
         client.launch(source, stopOnEntry=True)
         client.begin()
         assert moves(client, "next", "next") == [("step", 2), ("step", 3)]
@@ -345,7 +352,7 @@ def test_number_at_an_address_is_watched(client: Client) -> None:
 def test_source_has_the_path_by_which_it_was_launched(tmp_path: pathlib.Path) -> None:
     link = tmp_path / "link.s"
     link.symlink_to(SOURCE)
-    with Client.started() as client:
+    with Client.in_thread() as client:
         client.launch(link, stopOnEntry=True)
         (found,) = client.lines(link, MULTIPLY)
         assert found["verified"] and found["source"]["path"] == f"{link}"
@@ -356,7 +363,7 @@ def test_source_has_the_path_by_which_it_was_launched(tmp_path: pathlib.Path) ->
 def test_illegal_instruction_is_explained(tmp_path: pathlib.Path) -> None:
     source = tmp_path / "illegal.s"
     source.write_text("vsetivli x0, 4, e64, m2, ta, ma\nvid.v v2\nvadd.vv v3, v2, v2\nebreak\n")
-    with Client.started() as client:
+    with Client.in_thread() as client:
         client.launch(source)
         stop = client.begin()
         assert stop["reason"] == "exception" and client.where()[1] == 3
@@ -373,7 +380,7 @@ def test_illegal_instruction_is_explained(tmp_path: pathlib.Path) -> None:
 def test_end_of_a_source_is_an_exit(tmp_path: pathlib.Path) -> None:
     source = tmp_path / "short.s"
     source.write_text("li a0, 3\n")
-    with Client.started() as client:
+    with Client.in_thread() as client:
         client.launch(source)
         assert client.begin()["reason"] == "exit"
         assert moves(client, "stepBack") == [("step", 1)]
@@ -385,7 +392,7 @@ def test_end_of_a_source_is_an_exit(tmp_path: pathlib.Path) -> None:
 def test_restart_builds_the_source_again(tmp_path: pathlib.Path) -> None:
     source = tmp_path / "edited.s"
     source.write_text(COUNTDOWN)
-    with Client.started() as client:
+    with Client.in_thread() as client:
         client.launch(source, stopOnEntry=True)
         store = line_of(source, "store:")
         client.lines(source, store)

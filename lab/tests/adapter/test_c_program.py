@@ -120,7 +120,7 @@ int main(void)
 @pytest.fixture
 def above(clang: Compiler) -> Iterator[Client]:
     """A client with `above.c`, stopped at its first line, with a breakpoint at the addition."""
-    with Client.started() as client:
+    with Client.in_thread() as client:
         client.launch(ABOVE, stopOnEntry=True, options="O2", compiler=clang.name)
         (found,) = client.lines(ABOVE, ADD)
         assert found["verified"] and found["line"] == ADD
@@ -133,7 +133,7 @@ def calls(clang: Compiler, tmp_path: pathlib.Path) -> Iterator[tuple[Client, pat
     """A client with a source that isn't optimized, stopped at `main`, and its path."""
     source = tmp_path / "calls.c"
     source.write_text(CALLS)
-    with Client.started() as client:
+    with Client.in_thread() as client:
         client.launch(source, stopOnEntry=True, options="O0", compiler=clang.name)
         client.begin()
         yield client, source
@@ -175,7 +175,7 @@ def test_inlined_function_is_left(above: Client) -> None:
 def test_step_out_ends_at_a_line(clang: Compiler, tmp_path: pathlib.Path) -> None:
     source = tmp_path / "merged.c"
     source.write_text(MERGED)
-    with Client.started() as client:
+    with Client.in_thread() as client:
         client.launch(source, options="O2", compiler=clang.name)
         client.lines(source, line_of(source, "asm"))
         client.begin()
@@ -275,7 +275,7 @@ def test_pointers_have_elements(clang: Compiler, tmp_path: pathlib.Path) -> None
     """In the second round x[0] is from[16], which is 13, and y[0] is to[16]; the others are calculated by hand."""
     source = tmp_path / "scale.c"
     source.write_text(SCALE)
-    with Client.started() as client:
+    with Client.in_thread() as client:
         client.launch(source, options="O0", compiler=clang.name)
         (found,) = client.lines(source, line_of(source, "vse32"), condition="x[0] == 13 && *x > x[-1]")
         assert found["verified"]
@@ -302,7 +302,7 @@ def parts(clang: Compiler, tmp_path: pathlib.Path) -> Iterator[Client]:
     """A client with structures, pointers and vectors on the stack, stopped before `main` returns."""
     source = tmp_path / "parts.c"
     source.write_text(PARTS)
-    with Client.started() as client:
+    with Client.in_thread() as client:
         client.launch(source, options="O0", compiler=clang.name)
         client.lines(source, line_of(source, "return at->low"))
         client.begin()
@@ -354,7 +354,7 @@ def test_structures_pointers_and_vectors_have_parts(parts: Client) -> None:
 
 @pytest.mark.parametrize("image", TOTAL)
 def test_image_of_gcc_has_frames_and_locals(image: pathlib.Path) -> None:
-    with Client.started() as client:
+    with Client.in_thread() as client:
         client.launch(image, stopOnEntry=True)
         (found,) = client.ask("setFunctionBreakpoints", breakpoints=[{"name": "total"}])["breakpoints"]
         assert found["verified"]
@@ -371,7 +371,7 @@ def test_image_of_gcc_has_frames_and_locals(image: pathlib.Path) -> None:
 
 @pytest.mark.parametrize("image", PREFIX_SUMS)
 def test_image_of_clang_has_globals(image: pathlib.Path) -> None:
-    with Client.started() as client:
+    with Client.in_thread() as client:
         client.launch(image)
         client.lines(image.with_name("prefix_sums.c"), 51)
         assert client.begin()["reason"] == "breakpoint"
@@ -382,7 +382,7 @@ def test_image_of_clang_has_globals(image: pathlib.Path) -> None:
 @pytest.mark.parametrize("image", [SUM_DWARF4, SUM_DWARF5])
 def test_arguments_of_an_inlined_function_are_found(image: pathlib.Path) -> None:
     """At line 23 gdb 13.1 shows count=100 and v10 with the squares of 0 to 7 (docs/DEBUGGING.md)."""
-    with Client.started() as client:
+    with Client.in_thread() as client:
         client.launch(image, stopOnEntry=True)
         (found,) = client.lines(pathlib.Path("/nowhere/sum.c"), 23)
         assert found["verified"] and found["source"]["path"] == "/nowhere/sum.c"
@@ -397,7 +397,7 @@ def test_arguments_of_an_inlined_function_are_found(image: pathlib.Path) -> None
 
 def test_fault_of_an_image_without_debug_data_is_explained() -> None:
     """The store and its element are those of docs/COMPILING.md."""
-    with Client.started() as client:
+    with Client.in_thread() as client:
         client.launch(SQUARES)
         assert client.begin()["reason"] == "exception"
         info = client.ask("exceptionInfo", threadId=1)
