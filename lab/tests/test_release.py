@@ -190,6 +190,7 @@ def test_release_has_all_files_and_digests(proved: pathlib.Path) -> None:
     record = first["PROVENANCE"].decode()
     assert record.startswith("Gate: 5 passed, 0 failed\n") and record.count("\nTarget: ") == 5
     assert "vecmon_2.0.0+9.g1_amd64.deb vecmon-2.0.0+9.g1-linux-amd64.tar.gz" in record
+    assert "\nThe playground was made with these Debian packages:\n    libjs-codemirror " in record
     with zipfile.ZipFile(top / "first/vecmon-2.0.0+9.g1-windows-amd64.zip") as archive:
         names = {pathlib.PurePath(it.filename).name for it in archive.infolist() if not it.is_dir()}
         notices = archive.read("vecmon-2.0.0+9.g1-windows-amd64/copyright")
@@ -216,9 +217,9 @@ def test_inexact_figures_are_refused(proved: pathlib.Path) -> None:
     assert (ran.returncode, ran.stdout, ran.stderr) == (2, "", f"tools/release: {reason}\n")
 
 
-def write_page(folder: pathlib.Path) -> subprocess.CompletedProcess[str]:
-    """Writes the page of a release of some version."""
-    return run([sys.executable, TOP / "tools/releasing/release_page", folder, "2.0.0+9.g1"], folder)
+def write_page(folder: pathlib.Path, version: str = "2.0.0+9.g1", *options: str) -> subprocess.CompletedProcess[str]:
+    """Writes the page of a release of a version."""
+    return run([sys.executable, TOP / "tools/releasing/release_page", *options, folder, version], folder)
 
 
 def test_page_names_each_file_once(tmp_path: pathlib.Path) -> None:
@@ -228,6 +229,26 @@ def test_page_names_each_file_once(tmp_path: pathlib.Path) -> None:
     page = (tmp_path / "index.html").read_text()
     assert [page.count(f'<td><a href="{name}">') for name in FILES] == [1] * len(FILES)
     assert page.index("playground.html") < page.index(".deb") < page.index("PROVENANCE")
+
+
+def test_page_of_trial_calls_nothing_proved(tmp_path: pathlib.Path) -> None:
+    for name in FILES:
+        (tmp_path / name).write_text(name)
+    assert write_page(tmp_path).returncode == 0
+    assert "proved programs" in (tmp_path / "index.html").read_text()
+    (tmp_path / "index.html").unlink()
+    assert write_page(tmp_path, "2.0.0+9.g1~unproved").returncode == 0
+    page = (tmp_path / "index.html").read_text().replace("2.0.0+9.g1~unproved", "")
+    assert "UNPROVED" in page and "proved" not in page
+
+
+def test_page_of_signed_release_shows_how_to_check_it(tmp_path: pathlib.Path) -> None:
+    for name in FILES:
+        (tmp_path / name).write_text(name)
+    assert write_page(tmp_path).returncode == 0 and "gpg" not in (tmp_path / "index.html").read_text()
+    (tmp_path / "index.html").unlink()
+    assert write_page(tmp_path, "2.0.0+9.g1", "--signed").returncode == 0
+    assert "<code>gpg --verify SHA256SUMS.asc SHA256SUMS</code>" in (tmp_path / "index.html").read_text()
 
 
 def test_unknown_file_is_refused(tmp_path: pathlib.Path) -> None:
@@ -244,9 +265,9 @@ def test_missing_file_is_refused(tmp_path: pathlib.Path) -> None:
     assert (ran.returncode, ran.stderr) == (1, "there is no PROVENANCE\n") and not (tmp_path / "index.html").exists()
 
 
-@pytest.mark.parametrize("words", [[], ["."], ["--help"], [".", "2.0.0", "more"], ["none", "2.0.0"]])
+@pytest.mark.parametrize("words", [[], ["."], ["--help"], ["--signed", "."], [".", "2.0.0", "more"], ["none", "2.0.0"]])
 def test_wrong_arguments_are_one_line(tmp_path: pathlib.Path, words: Sequence[str]) -> None:
     ran = run([sys.executable, TOP / "tools/releasing/release_page", *words], tmp_path)
-    reason = "usage: tools/releasing/release_page FOLDER VERSION\n"
+    reason = "usage: tools/releasing/release_page [--signed] FOLDER VERSION\n"
     assert (ran.returncode, ran.stdout, ran.stderr.count("\n")) == (2, "", 1) and ran.stderr.endswith(reason)
     assert not (tmp_path / "index.html").exists()

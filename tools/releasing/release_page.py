@@ -1,7 +1,8 @@
-"""Writes the page of a release, which says what each file is for: tools/releasing/release_page FOLDER VERSION
+"""Writes the page of a release, which says what each file is for: tools/releasing/release_page [--signed] FOLDER VERSION
 
-FOLDER has the files of the release; index.html is written there. Exit status, with one line: 1 if the page has no use of a file, or a file is
-missing; 2 for wrong arguments, or if FOLDER isn't a folder.
+FOLDER has the files of the release; index.html is written there. With --signed it also says how to check the signature of SHA256SUMS. If
+VERSION ends with ~unproved, as tools/package writes it, the page calls no program proved. Exit status, with one line: 1 if the page has no
+use of a file, or a file is missing; 2 for wrong arguments, or if FOLDER isn't a folder.
 """
 
 import fnmatch
@@ -10,7 +11,8 @@ import sys
 from collections.abc import Mapping, Sequence
 from pathlib import Path
 
-USAGE = "usage: tools/releasing/release_page FOLDER VERSION"
+USAGE = "usage: tools/releasing/release_page [--signed] FOLDER VERSION"
+UNPROVED = "~unproved"  # the end of the version of a trial
 ADDRESS = ""  # of the folder of releases; empty as long as there is none
 USES = (
     (
@@ -95,13 +97,15 @@ td:nth-child(3) {{ white-space: nowrap; text-align: right; }}
 </style>
 <h1>vecmon {version}</h1>
 <p>A trainer machine for the RISC-V vector extension. <a href="playground.html">Open the playground</a>, or take a file for your system.{address}</p>
-<p>Check files in their folder: <code>sha256sum -c --ignore-missing SHA256SUMS</code></p>
+{trial}<p>Check files in their folder: <code>sha256sum -c --ignore-missing SHA256SUMS</code>{signature}</p>
 <table>
 <tr><th>File<th>For<th>Bytes<th>Use
 {rows}
 </table>
 </html>
 """
+TRIAL = "<p><strong>These programs are UNPROVED: the files are a trial.</strong></p>\n"
+SIGNATURE = ", and its signature: <code>gpg --verify SHA256SUMS.asc SHA256SUMS</code>"
 ROW = '<tr><td><a href="{name}">{name}</a><td>{reader}<td>{size:,}<td>{use}'
 
 
@@ -114,14 +118,19 @@ def row(name: str, size: int, reader: str, use: str) -> str:
     return ROW.format(name=html.escape(name), reader=html.escape(reader), size=size, use=html.escape(use))
 
 
-def rows_of(files: Mapping[str, int]) -> list[str]:
+def without_proofs(use: str) -> str:
+    """Return the use of a file in a trial, whose programs aren't proved."""
+    return use.replace(" proved programs", " programs").replace(", and which programs are proved", "")
+
+
+def rows_of(files: Mapping[str, int], is_proved: bool) -> list[str]:
     """Return the rows of all files, whose sizes are by their names. Raises Refusal if the names aren't those of USES."""
     rows, unnamed = list[str](), set(files)
     for pattern, reader, use in USES:
         names = fnmatch.filter(files, pattern)
         if len(names) != 1:
             raise Refusal(f"there is no {pattern}" if not names else f"{' and '.join(names)} have the same use")
-        rows.append(row(names[0], files[names[0]], reader, use))
+        rows.append(row(names[0], files[names[0]], reader, use if is_proved else without_proofs(use)))
         unnamed -= {*names}
     if unnamed:
         raise Refusal(f"no use of {min(unnamed)} is known")
@@ -130,20 +139,29 @@ def rows_of(files: Mapping[str, int]) -> list[str]:
 
 def main(arguments: Sequence[str]) -> int:
     """Write the page; return the exit status."""
+    is_signed = list(arguments[:1]) == ["--signed"]
+    arguments = arguments[is_signed:]
     if len(arguments) != 2 or arguments[0].startswith("-"):
         print(f"tools/releasing/release_page: {USAGE}", file=sys.stderr)
         return 2
     folder, version = Path(arguments[0]), arguments[1]
+    is_proved = not version.endswith(UNPROVED)
     if not folder.is_dir():
         print(f"tools/releasing/release_page: {folder} isn't a folder; {USAGE}", file=sys.stderr)
         return 2
     try:
-        rows = rows_of({path.name: path.stat().st_size for path in folder.iterdir()})
+        rows = rows_of({path.name: path.stat().st_size for path in folder.iterdir()}, is_proved)
     except Refusal as refusal:
         print(refusal, file=sys.stderr)
         return 1
     address = f' All releases: <a href="{ADDRESS}">{ADDRESS}</a>.' if ADDRESS else ""
-    page = PAGE.format(version=html.escape(version), rows="\n".join(rows), address=address)
+    page = PAGE.format(
+        version=html.escape(version),
+        rows="\n".join(rows),
+        address=address,
+        trial="" if is_proved else TRIAL,
+        signature=SIGNATURE if is_signed else "",
+    )
     (folder / "index.html").write_text(page, "utf-8")
     return 0
 
