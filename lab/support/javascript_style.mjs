@@ -35,7 +35,8 @@ function faultOf(node) {
   if (isAssignment(node) && !isAlone(node)) return "an assignment within an expression: write a statement for it";
   if (ts.isVariableDeclarationList(node) && node.declarations.length > 1 && !ts.isForStatement(node.parent))
     return "several names in a declaration: write a declaration for each";
-  if (ts.isVariableDeclaration(node) && ts.isArrayBindingPattern(node.name) && node.initializer && ts.isArrayLiteralExpression(node.initializer))
+  const value = ts.isVariableDeclaration(node) && ts.isArrayBindingPattern(node.name) && node.initializer;
+  if (value && ts.isArrayLiteralExpression(value))
     return "a list assigned to a list: write a declaration for each";
   if (ts.isExpressionStatement(node) && ts.isConditionalExpression(node.expression)) return "a choice as a statement: write `if`";
   return "";

@@ -1,7 +1,8 @@
 // Prints the bytes that the page play/index.html of a site loads, as rows for MEASUREMENTS.md: node lab/tools/first_load.mjs SITE
 //
-// SITE is the output folder of tools/site. The rows have the page and its parts before the first interaction, and pyelftools, which the first
-// image loads: with gzip, as the parts are stored and a server compresses the page, and with brotli -q 11 -w 24, which some servers use.
+// SITE is the output folder of tools/site. The rows have the page and its parts before the first interaction, and pyelftools, which the
+// first image loads: with gzip, as the parts are stored and a server compresses the page, and with brotli -q 11 -w 24, which some servers
+// use.
 import childProcess from "node:child_process";
 import fs from "node:fs";
 import path from "node:path";
@@ -29,6 +30,7 @@ function all(sizes) {
   return `${numbers(sizes)}; ${(sum / 1e6).toFixed(2)} MB`;
 }
 
-console.log(`| \`play\`, before the first interaction: page; Python; its memory; machine; texts, bytes with gzip; all of it | ${all(FIRST.map(gzipped))} |`);
+const parts = "page; Python; its memory; machine; texts, bytes with gzip; all of it";
+console.log(`| \`play\`, before the first interaction: ${parts} | ${all(FIRST.map(gzipped))} |`);
 console.log(`| the same with \`brotli -q 11 -w 24\`; all of it | ${all(FIRST.map(withBrotli))} |`);
 console.log(`| pyelftools, which the first image loads, with gzip; with brotli | ${numbers([gzipped(LATER), withBrotli(LATER)])} |`);

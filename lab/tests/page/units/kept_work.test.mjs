@@ -63,7 +63,8 @@ class Browser {
     setImmediate(end);
     const put = (entry) => changes.push([entry.name, entry]);
     const remove = (name) => changes.push([name, null]);
-    return Object.assign(transaction, { objectStore: () => ({ put, delete: remove, getAll: () => this.request(() => [...this.stored.values()]) }) });
+    const getAll = () => this.request(() => [...this.stored.values()]);
+    return Object.assign(transaction, { objectStore: () => ({ put, delete: remove, getAll }) });
   }
 
   texts = () => Object.fromEntries([...this.stored].map(([name, { text }]) => [name, text]));
@@ -180,7 +181,7 @@ test("a source that may not be saved yet is among the texts of the next page, un
   assert.deepEqual((await open()).work.texts, { "A1.s": ["ret", 3], "A.stop": ["ebreak", 2] });
 });
 
-test("the source of a waiting tab that is closed is among the texts of the next page, and of the saving one until it is stored", async () => {
+test("the source of a closed waiting tab is among the texts of the next page, and of the saving one until it is stored", async () => {
   const browser = new Browser();
   const first = await open();
   first.work.keep("A1.s", "nop", 1);

@@ -5,7 +5,11 @@ import { search } from "../../../vecmon_lab/page/web/panels/search.js";
 
 /** @type {Record<string, import("../../../vecmon_lab/page/web/panels/search.js").Entry[]>} */
 const SECTIONS = {
-  Commands: [["vlenb", "vlenb", "prints the bytes of a register"], ["load", "load NAME", "loads an image"], ["run", "* run U", "runs a program"]],
+  Commands: [
+    ["vlenb", "vlenb", "prints the bytes of a register"],
+    ["load", "load NAME", "loads an image"],
+    ["run", "* run U", "runs a program"],
+  ],
   Instructions: [
     ["lw", "lw rd, offset(rs1)", "Loads 32 bits."],
     ["vle8.v", "vle8.v vd, (rs1)", "Loads elements."],

@@ -2,7 +2,15 @@
 
 import assert from "node:assert/strict";
 import test from "node:test";
-import { MOST_LETTERS, isApart, isBuiltFirst, isDue, isUnsent, keyOf, sourceState } from "../../../vecmon_lab/page/web/editor/source_state.js";
+import {
+  MOST_LETTERS,
+  isApart,
+  isBuiltFirst,
+  isDue,
+  isUnsent,
+  keyOf,
+  sourceState,
+} from "../../../vecmon_lab/page/web/editor/source_state.js";
 
 const OTHER = { text: "nop", language: 0 };
 const TEXTS = { short: { text: "ebreak", language: 0 }, long: { text: "#".repeat(MOST_LETTERS + 1), language: 0 } };

@@ -80,7 +80,8 @@ export class Connection {
   /** Adds what a page without a server has: work from a file, a sentence on storage, and one on checks. */
   addElements() {
     byId("home").title = textOf("playground.take-home.title");
-    const choose = Object.assign(make("input", ""), { type: "file", accept: ".json", ariaLabel: textOf("playground.file.label"), hidden: true });
+    const ariaLabel = textOf("playground.file.label");
+    const choose = Object.assign(make("input", ""), { type: "file", accept: ".json", ariaLabel, hidden: true });
     choose.addEventListener("change", () => {
       this.bring(choose.files?.[0]);
       choose.value = "";

@@ -127,7 +127,10 @@ export class KeptWork {
     if (!isSaving) this.takeOver();
   }
 
-  /** The stored texts, with the sources of waiting tabs; entries that can't be read become the rest. isSaving: whether the unsaved source is this page's */
+  /**
+   * The stored texts, with the sources of waiting tabs; entries that can't be read become the rest.
+   * isSaving: whether the unsaved source is this page's
+   */
   async read(isSaving = true) {
     /** @type {Partial<Entry>[]} */
     const entries = await resultOf(/** @type {IDBDatabase} */ (this.database).transaction(STORE).objectStore(STORE).getAll());

@@ -24,7 +24,12 @@ const REGISTERS = new Set([...ABI_NAMES, "fp", ...Array.from({ length: 32 }, (_,
 const NAME = /^[A-Za-z_.$][\w.$]*/;
 const LABEL = /^(?:[A-Za-z_.$][\w.$]*|\d+)(?=\s*:)/;
 /** @type {Record<string, RegExp>} */
-const PATTERNS = { def: LABEL, comment: /^(?:#|\/\/).*/, string: /^"(?:[^"\\]|\\.)*"?/, number: /^-?\d\w*|^'(?:\\.|[^\\])'?/ }; // by CodeMirror's kinds
+const PATTERNS = {
+  def: LABEL,
+  comment: /^(?:#|\/\/).*/,
+  string: /^"(?:[^"\\]|\\.)*"?/,
+  number: /^-?\d\w*|^'(?:\\.|[^\\])'?/,
+}; // by CodeMirror's kinds
 
 /** The kind of a name that isn't a label. isAssigned: whether an equals sign follows it */
 /** @type {(name: string, state: State, isAssigned: boolean) => string | null} */

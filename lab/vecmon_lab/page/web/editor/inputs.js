@@ -1,4 +1,5 @@
-// The inputs of a source in assembler: a row below the editor for each line `#> a0 = i32 3, 1, 4`. Only the text has them: a row writes its line.
+// The inputs of a source in assembler: a row below the editor for each line `#> a0 = i32 3, 1, 4`. Only the text stores them, so a row
+// writes its line.
 
 import { button, make, part } from "../common/dom.js";
 import { textOf } from "../common/texts.js";

@@ -31,8 +31,8 @@ export const keyOf = (/** @type {SourceText | null} */ source) => (source ? `${s
  *   sent: ReadonlySet<string>,
  *   isTyped: boolean,
  *   apart: Apart | null,
- * }} facts told: the server's source, and whether the machine has it; here: the editor's; sent: keys of sources in requests without an answer;
- * isTyped: whether the text was changed since the page was opened
+ * }} facts told: the server's source, and whether the machine has it; here: the editor's; sent: keys of sources in requests without an
+ * answer; isTyped: whether the text was changed since the page was opened
  * @returns {SourceState}
  */
 export function sourceState({ told, here, sent, isTyped, apart }) {

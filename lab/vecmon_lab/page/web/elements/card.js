@@ -33,9 +33,10 @@ export function cardOf(view, columns) {
   const text = withNames(line.slice(9), hasAbiNames);
   if (!executed) return { text, alias: "", meaning, formula: "", scalars: [], counts: [] };
   const does = operandsText(executed.does, hasAbiNames);
+  const sentences = [does, maskSentence(state, executed), tailSentence(state, executed), ...stopSentences(view, executed)];
   return {
     text, alias: state.aliases?.[state.instruction ?? ""] ?? "",
-    meaning: [does, maskSentence(state, executed), tailSentence(state, executed), ...stopSentences(view, executed)].filter(Boolean).join(" "),
+    meaning: sentences.filter(Boolean).join(" "),
     formula: operandsText(executed.formula, hasAbiNames),
     scalars: scalarTexts(view, executed),
     counts: countsOf(columns, view),

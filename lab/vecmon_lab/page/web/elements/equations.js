@@ -78,7 +78,8 @@ function nameOf(term, place) {
  */
 function written(parts, write) {
   const texts = parts.map((part) => (typeof part === "string" ? part : write(part)));
-  return texts.map((text, place) => (typeof parts[place] !== "string" && text[0] === "−" && parts.length > 1 ? `(${text})` : text)).join("");
+  const isNegative = (/** @type {string} */ text, /** @type {number} */ place) => typeof parts[place] !== "string" && text[0] === "−";
+  return texts.map((text, place) => (isNegative(text, place) && parts.length > 1 ? `(${text})` : text)).join("");
 }
 
 /** @type {(parts: Parts, place: Place) => [names: string, numbers: string]} */
@@ -93,7 +94,10 @@ const sidesOf = (parts, place) => [
  * @param {boolean} hasAbiNames
  */
 export const operandsText = (parts, hasAbiNames) =>
-  parts.map((part) => (typeof part === "string" ? part : scalarName(part.scalar ?? 0, hasAbiNames))).join("").replace(/(?<!\w)-(?=\d)/g, "−");
+  parts
+    .map((part) => (typeof part === "string" ? part : scalarName(part.scalar ?? 0, hasAbiNames)))
+    .join("")
+    .replace(/(?<!\w)-(?=\d)/g, "−");
 
 /**
  * Returns the equation of an element: with names, with numbers, the result, and what selected its form; "" without one.

@@ -184,7 +184,8 @@ function memoryRow({ state, form, hasAbiNames }, { earlier, outcomes, groups: [{
     if (kind !== "after") return cellOf(old, kind === "before" ? "" : outcome, { width, form });
     return cellOf(read(state.memory, element), outcome, { width, form, was: old });
   });
-  return { kind, register: -1, width, head: `(${scalarName(access.base, hasAbiNames)})`, words: fieldName(access, KINDS[kind], field), cells };
+  const head = `(${scalarName(access.base, hasAbiNames)})`;
+  return { kind, register: -1, width, head, words: fieldName(access, KINDS[kind], field), cells };
 }
 
 /**

@@ -67,7 +67,7 @@ class Lesson {
     this.show(Number(location.hash.slice(1) || 1) - 1);
   }
 
-  /** The registers that a user's lines and instructions use; in a lesson without these data the vector registers that aren't 0 in any frame. */
+  /** The registers that a user's lines and instructions use; in a lesson without these data the vector registers that aren't always 0. */
   /** @type {(user: string, used?: import("../messages").UsedRegisters) => import("../panels/view").Used} */
   usedBy(user, used) {
     if (used) return { v: new Set(used.v), x: new Set(used.x) };

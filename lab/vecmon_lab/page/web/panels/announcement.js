@@ -33,7 +33,8 @@ export function announcementOf(state, before, elements, hasAbiNames) {
   const scalars = scalarChanges(state, before, hasAbiNames);
   const isStep = before.pc === state.instruction;
   const registers = vectors.join(", ");
-  const ownText = elements === 1 ? textOf("step.changed-element", { registers }) : textOf("step.changed-elements", { registers, count: elements });
+  const oneText = textOf("step.changed-element", { registers });
+  const ownText = elements === 1 ? oneText : textOf("step.changed-elements", { registers, count: elements });
   const vectorText = isStep ? ownText : textOf("step.changed-vectors", { registers });
   const listed = vectors.length ? [vectorText] : [];
   const changes = [...scalars.slice(0, MOST), ...listed].join(", ") || textOf("step.changed-nothing");

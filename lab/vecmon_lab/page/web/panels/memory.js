@@ -128,7 +128,7 @@ const arraysOf = (/** @type {MachineState} */ { data = {} }) =>
   Object.entries(data).filter(([, { type }]) => type !== "text").map(([address, { type, count }]) =>
     ({ at: BigInt(`0x${address}`), element: type, counts: [count] }));
 
-/** The calls that a program made, or is about to make, and the machine doesn't have, in words. A program that hasn't executed anything has none. */
+/** Sentences on calls that a program made or is about to make, if the machine doesn't have them; none before the first instruction. */
 const unsupported = (/** @type {MachineState} */ state) =>
   Object.entries(state.instruction || state.stop ? state.calls ?? {} : {}).map(([address, sentence]) => {
     const line = lineOf(state, address);

@@ -19,7 +19,8 @@ const PRESENT = 2 ** 52; // more instructions than any program has executed
 const BESIDES = ["accessed", "breaks", "labels", "lines", "outputs", "read"];
 
 /** Whether two values are equal. Parts that a patch leaves are the same object; after a reconnection all of them are new. */
-const isEqual = (/** @type {unknown} */ one, /** @type {unknown} */ other) => one === other || JSON.stringify(one) === JSON.stringify(other);
+const isEqual = (/** @type {unknown} */ one, /** @type {unknown} */ other) =>
+  one === other || JSON.stringify(one) === JSON.stringify(other);
 
 /** Whether two states have the same values. */
 /** @type {(one: State, other: State) => boolean} */
