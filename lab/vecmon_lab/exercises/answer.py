@@ -27,16 +27,19 @@ from ..machine.target import check_flags, check_kind, target_warnings
 from .exercise import UNLIMITED, Case, Exercise, Limits, Results
 
 TURNED = 0xA5
-"""The bits that differ between an expected byte and the byte there before the run. With all 8 bits, 32767 would become -32768."""
+"""The bits of an expected byte that are inverted in the byte at its place before the run.
+
+Not all 8 bits are inverted, since 32767 would become -32768.
+"""
 
 C_SUFFIX = ".c"
 
 
 @dataclass(frozen=True)
 class ExerciseAnswer:
-    """An answer's file.
+    """The file of an answer.
 
-    commands: of the monitor, that load the answer after `enter`; None for an image
+    commands: the monitor's commands that load the answer after `enter`; None for an image
     source: the answer's source; None for an image or a script
     """
 
@@ -136,7 +139,10 @@ def _open(name: str, flags: int) -> int:
 
 
 def _script_commands(text: str) -> list[str]:
-    """Return the commands of a script, without the user's digit. All are of one user; lines with # are comments. Raises LabError."""
+    """Return the commands of a script, without the user's digit. Lines that start with # are comments.
+
+    Raises LabError unless all commands are of the same user.
+    """
     lines = [(number, line) for number, line in enumerate(text.split("\n"), 1) if line and not line.startswith("#")]
     for number, line in lines:
         with mistakes_in(f"line {number}"):
@@ -159,9 +165,9 @@ def ready(
     case: Case,
     write: Callable[[bytes], object] | None = None,
 ) -> Iterator[Guest]:
-    """Yield a new machine with an answer loaded and a case's input set. Raises LabError if that is refused.
+    """Yield a new machine with an answer loaded and a case's input set. Raises LabError if the machine refuses one of them.
 
-    write: is called with the output of the answer from then on
+    write: called with the output of the answer
     """
     images = {"image": answer.path} if answer.commands is None else {}
     with contextlib.ExitStack() as stack:
@@ -197,9 +203,9 @@ def attempt(program: Vecmon, answer: ExerciseAnswer, exercise: Exercise, case: C
 
 
 def _without_end(guest: Guest, answer: ExerciseAnswer, stop: Stop | None, ticks: int) -> str:
-    """Return why an answer doesn't end by itself, and the line of its source.
+    """Return the reason why an answer doesn't end by itself, with the line of its source.
 
-    stop: None if its ticks ran out
+    stop: the stop of the answer; None if its ticks ran out
     """
     source, pc = answer.source.program if answer.source else None, stop.pc if stop else guest.pc
     line = source.line_at(pc) if source else 0
@@ -218,10 +224,7 @@ def _runs_on(answer: ExerciseAnswer, pc: int) -> bool:
 
 
 def _run(guest: Guest, limits: Limits) -> tuple[Stop | None, bool]:
-    """Run an answer, and return its stop, and whether it took more instructions than the limit.
-
-    The stop is None if the answer's ticks ran out.
-    """
+    """Run an answer. Return its stop, or None if its ticks ran out, and whether it executed more instructions than the limit."""
     left = limits.instructions + 1 if limits.instructions < UNLIMITED else 0  # the last one may be the stop
     while left > 0:
         stop, _ = guest.execute(min(left, MAX_STEPS))
@@ -232,9 +235,9 @@ def _run(guest: Guest, limits: Limits) -> tuple[Stop | None, bool]:
 
 
 def inputs(exercise: Exercise, case: Case, start: int) -> list[str]:
-    """Return the commands that set a case's input, after the answer is loaded.
+    """Return the commands that set a case's input after the answer is loaded.
 
-    They also fill each expected place with something else, so that an answer must write it.
+    They also fill each place that has an expected result with other bytes, so that an answer must write the result.
 
     start: the address where the run begins
     """

@@ -1,4 +1,4 @@
-"""The cost of an answer that passes: instructions, and the share of elements that did work."""
+"""The cost of an answer that passes: its instructions, and the percentage of active elements."""
 
 from typing import TypedDict
 
@@ -7,7 +7,7 @@ from .answer import ExerciseAnswer, ready
 from .exercise import Exercise
 
 AnswerCost = TypedDict("AnswerCost", {"instructions": int, "work": int})
-"""The cost of an answer in all visible cases: instructions, and of 100 elements those that did work."""
+"""The cost of an answer in all visible cases: the number of executed instructions, and the percentage of active elements."""
 
 
 def answer_cost(program: Vecmon, answer: ExerciseAnswer, exercise: Exercise) -> AnswerCost:

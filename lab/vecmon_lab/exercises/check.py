@@ -34,7 +34,7 @@ from .cause import Cause, cause
 from .answer_cost import AnswerCost, answer_cost
 
 NAME = pathlib.Path("answer")
-MAX_SHOWN, BEFORE = 48, 4  # numbers of a row; and of them before the first wrong one
+MAX_SHOWN, BEFORE = 48, 4  # the most numbers in a row, and how many of them precede the first wrong one
 CPU_SECONDS = 10
 UNCHECKED = "The answer couldn't be checked, which isn't your fault. Nothing was counted."
 
@@ -215,7 +215,7 @@ def _notes(exercise: Exercise, case: Case) -> list[str]:
 
 
 def _given(case: Case, cut: NumberRow | None) -> list[NumberRow]:
-    """Return rows of the inputs. If the results' row doesn't start with number 0, start at the corresponding inputs.
+    """Return rows of the inputs. If the row of results doesn't start with number 0, start at the corresponding inputs.
 
     cut: the row of results; None to start with the first number
     """
@@ -236,7 +236,10 @@ def _compared(expected: Results, found: Results) -> tuple[list[NumberRow], list[
 
 
 class _Strip(NamedTuple):
-    """A place, its numbers as texts, and the ABI name of the register that it is, or ""."""
+    """The numbers of a place, as texts.
+
+    where: a description of the place; register: the ABI name of a register; "" for memory
+    """
 
     where: str
     texts: Sequence[str]

@@ -46,9 +46,9 @@ class Numbers:
 
 @dataclass(frozen=True)
 class Results:
-    """Results of a run, found or expected.
+    """The results of a run, found or expected.
 
-    registers: values by name, as x10; memory: places with their numbers; output: None if the output doesn't count
+    registers: their values by name, such as `x10`; memory: places with their numbers; output: None if the output doesn't count
     """
 
     registers: Mapping[str, int]
@@ -252,7 +252,10 @@ def _places(where: str, entries: Sequence[object], by_reference: bool) -> list[N
 
 
 def _place(where: str, entries: object, by_reference: bool) -> Numbers:
-    """Return a place in memory. Raises LabError. It has `at`, and its numbers by their type, or their count, or a text."""
+    """Return the place in memory that a table describes. Raises LabError.
+
+    The table has the address `at`. It has the numbers below the name of their type, or it has their count, or a text.
+    """
     match entries:
         case {"at": int(address), **others} if 0 <= address < 1 << 48:
             place = Numbers(address, *_numbers(f"{where}: the place at {address:#x}", others, by_reference))

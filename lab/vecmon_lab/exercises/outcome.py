@@ -47,9 +47,10 @@ def outcome(program: Vecmon, answer: ExerciseAnswer, exercise: Exercise, case: C
 
 @dataclass(frozen=True)
 class WrongNumber:
-    """A wrong number in the results of an answer. expected, before, found: the expected number, the one before the run, and the result
+    """A wrong number in the results of an answer.
 
-    where: a description of the place; register: its name, as x10, or "" for memory; memory: the addresses of the number's bytes
+    expected, before, found: the expected number, the number before the run, and the result
+    where: a description of the place; register: its name, such as `x10`, or "" for memory; memory: the addresses of the number's bytes
     """
 
     where: str
@@ -61,7 +62,7 @@ class WrongNumber:
 
 
 def difference(expected: Results, done: Attempt, given: Mapping[str, int]) -> str:
-    """Return a text about the first place where the results differ from the expected ones, or "".
+    """Return a text about the first place where the results differ from the expected ones; "" if there is none.
 
     given: the registers before the run; the text says if a wrong number is near an address in one of them
     """

@@ -32,7 +32,7 @@ class Frame:
     user: the digit of the user whose state is shown
     line: the command; more: the number of further lines
     note: the author's comment
-    log: lines after `>`, their answers after `<` or `*` (`log_entries`), and after `!` the reason why a line wasn't sent
+    log: entries that begin with their kind: `>` a line, `<` or `*` a line of its answer (`log_entries`), `!` the reason why a line wasn't sent
     states: the state of each user after the lines, by the user's digit
     used: the registers that the whole lesson uses, by the user's digit
     types: the vector types at the lines of the lesson's assembler source
@@ -74,8 +74,8 @@ def make_frames(
 class _Maker:
     """Executes the script on two machines.
 
-    The first executes the lines as they are, and the lesson shows its answers. The second steps one instruction at a time if a line steps
-    several, and the frames have its states.
+    The first machine executes the lines as they are, and the lesson shows its answers. If a line steps several instructions, the second
+    machine steps them one at a time. The states in the frames are those of the second machine.
     """
 
     def __init__(self, script: Script, whole: Session, single: Session) -> None:
@@ -87,7 +87,7 @@ class _Maker:
         self._words: dict[int, int] = {}  # words of the source's instructions, by address
 
     def add(self, step: Step) -> None:
-        """Execute a step, and add its frame, or if its first line steps several instructions, a frame for each of them."""
+        """Execute a step, and add its frame. If the step's first line steps several instructions, add a frame for each instruction."""
         log, answers, states = list[str](), list[tuple[str, Answer]](), self._states.copy()
         for line in step.lines:
             self._execute(line, log, answers)
@@ -106,7 +106,7 @@ class _Maker:
         self._add_frame(step, user, log, step.note)
 
     def _execute(self, line: str, log: list[str], answers: list[tuple[str, Answer]]) -> None:
-        """Execute a line on the first machine. Add the line and its answer to the log, and the parts of the answer with their users."""
+        """Execute a line on the first machine. Append the line and its answer to `log`, and each part of the answer, with its user, to `answers`."""
         log.append(f">{line}")
         try:
             parts = self._whole.do(line)
@@ -130,10 +130,10 @@ class _Maker:
         answers += answers_by_user(parts)
 
     def _step_singly(self, step: Step, number: int, log: list[str], answers: Sequence[tuple[str, Answer]]) -> None:
-        """Repeat the line's instructions on the second machine, and add a frame for each.
+        """Step the line's instructions on the second machine, and add a frame for each.
 
-        It ends after `number` instructions, at a stop, or at a breakpoint after the first instruction. Raises LabError if the machines
-        differ then.
+        The machine stops after `number` instructions, at a stop, or at a breakpoint after the first instruction. Raises LabError if the two
+        machines differ then.
         """
         line, user = step.lines[0], step.lines[0][0]
         for place in range(1, number + 1):

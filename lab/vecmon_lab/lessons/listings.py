@@ -30,7 +30,7 @@ MAX_TICKS, MAX_WORDS = 50_000, 4000
 class CompiledListing:
     """The code of one compiler for a source.
 
-    name: of the compiler, with its options
+    name: the compiler with its options
     summary: sentences about the counts
     rows: for each instruction its address, the number of its line in the source, the name of the function that was inlined there ("" for
         none), its text, the number of times that it was executed, and its numbers of active, masked-off and tail elements
@@ -44,7 +44,7 @@ class CompiledListing:
 def listing_of(program: CompiledProgram, name: str, machine: pathlib.Path) -> CompiledListing:
     """Run a program on a new machine to its end, or for MAX_TICKS ticks; return its listing.
 
-    name: of the compiler; machine: the path of vecmon
+    name: the compiler with its options; machine: the path of vecmon
 
     Raises LabError if the machine refuses the program.
     """

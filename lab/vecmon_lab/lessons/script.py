@@ -25,7 +25,7 @@ RUN_LINES = ["1 step 256", "1 out"]
 class Step:
     """The lines of one frame: a line that changes something, similar lines that join it, and the read-only lines after it.
 
-    lines: there may be none in the last step of a file
+    lines: the lines, which may be missing in the last step of a file
     note: the author's comment before these lines
     """
 
@@ -41,9 +41,9 @@ class Script:
     labels: the source's labels by address
     statements: the source's instructions, by the line that writes them
     notes: the source's comments, by the address of the instruction after them
-    said: lines of a compiled source by address
+    said: the lines of a compiled source, by the address of their first instruction
     starts: the addresses where instructions of another line of a compiled source begin, with the line's number
-    variables: of a compiled source
+    variables: the variables of a compiled source
     program: the program of the source
     """
 
@@ -93,9 +93,9 @@ def read_assembled(
 ) -> Script:
     """Return the lesson of an assembler source, for user 1.
 
-    name: of its file; if it ends in .S, the source mustn't have lines for the preprocessor
-    files: reads the files that the source includes; if None, includes are refused
-    read: assembles the source in place of `read_source`
+    name: the name of the source's file; if it ends in .S, the source mustn't have lines for the preprocessor
+    files: reads the files that the source includes; None to refuse includes
+    read: assembles the source; None for `read_source`
 
     Raises SourceMistakes, with a line for each of the first MAX_LISTED mistakes.
     """
@@ -137,7 +137,10 @@ def read_compiled(text: str, name: str, program: CompiledProgram, is_c: bool) ->
 
 
 def _script_of(program: Program, lines: list[str], name: str) -> Script:
-    """Return the lesson of a source's program. lines: of the source, with comments that start with `#`; name: of the source"""
+    """Return the lesson of a source's program.
+
+    lines: the lines of the source, with comments that start with `#`; name: the name of the source
+    """
     title = next((_sentence([line]) for line in lines if line.startswith("##")), "")
     introduction, notes = _source_notes(lines, program)
     steps = [Step(["1 enter", *(f"1 {line}" for line in program.load_lines())], introduction)]

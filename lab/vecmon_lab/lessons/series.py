@@ -17,11 +17,11 @@ Entry = TypedDict("Entry", {"name": str, "title": str, "sentence": str, "strip":
 def make_series(
     series: str, program: pathlib.Path, scripts: Mapping[str, tuple[Script, str]]
 ) -> tuple[list[tuple[str, str, str]], list[Entry]]:
-    """Return the pages of lessons (a name, a title and the HTML of each), and the entries of their index.
+    """Return the pages of a series of lessons (for each a name, a title and the HTML), and the entries of the series' index.
 
     series: `tour` or `course`
     program: the path of vecmon
-    scripts: by name, in the order of the lessons: a script, and the sentence about it in the index
+    scripts: the script of each lesson and the sentence about it in the index, by the lesson's name, in the order of the series
 
     Raises LabError as `make_frames` does.
     """

@@ -27,7 +27,7 @@ class Series(TypedDict):
 
 
 def lesson_link(lesson: SeriesLesson, content: str, **attributes: object) -> Html:
-    """Return a link to the page of a lesson in the same folder. content: the link's text; attributes: of the element"""
+    """Return a link to the page of a lesson in the same folder. content: the link's text; attributes: further attributes of the HTML element"""
     return element("a", content, href=f"{lesson['name']}.html", **attributes)
 
 

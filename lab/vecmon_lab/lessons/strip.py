@@ -13,8 +13,11 @@ from .frames import Frame
 VLEN, MAX_CELLS, MAX_WORDS = 256, 16, 6
 
 Strip = TypedDict("Strip", {"name": str, "text": str, "cells": list[tuple[str, str]]})
-"""A register or `program`; the instruction that wrote it, or ""; and cells, each its digits and the form of an element:
-`active`, `masked`, `tail`, `prestart`, or "" without a vector type."""
+"""A picture.
+
+name: the name of a register, or `program`; text: the instruction that wrote the register, or ""
+cells: the digits of each element or word, and the kind of the element: `active`, `masked`, `tail` or `prestart`; "" without a vector type
+"""
 
 
 def strip_of(frames: Sequence[Frame]) -> Strip:
@@ -90,12 +93,15 @@ def _strip(state: State, number: int) -> Strip:
 
 
 def _signed(element: int, width: int) -> int:
-    """Return the signed value of an element, as pages show it first. A bit of a mask is 0 or 1."""
+    """Return the signed value of an element, which pages show before other forms. A bit of a mask is 0 or 1."""
     return element - (1 << width) if width > 1 and element >> (width - 1) else element
 
 
 def _kind(state: State, element: int, is_masked: bool) -> str:
-    """Return the kind of an element, such as `active` or `tail`, from vl, vstart and v0. element: its index"""
+    """Return the kind of an element, such as `active` or `tail`, which depends on vl, vstart and v0.
+
+    element: the index of the element; is_masked: whether the instruction is masked
+    """
     if element >= state["vl"]:
         return "tail"
     if element < state["vstart"]:

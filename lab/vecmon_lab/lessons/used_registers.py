@@ -30,7 +30,7 @@ class UseCounter:
         self._named = set[str]()  # names such as `x5`, from lines since the user's machine started
 
     def follow(self, line: str) -> None:
-        """Take up the registers that an accepted line names.
+        """Count the registers that an accepted line names.
 
         The line that writes the set-up instruction of an exercise's case drops the registers named since the user's machine started.
         """

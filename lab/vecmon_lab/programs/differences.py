@@ -38,7 +38,7 @@ def differences(
 
 
 def _of_scalars(step: LoggedStep, after: Registers, shift: int) -> Iterator[Difference]:
-    """Yield differences of scalar registers. Registers that the log doesn't name keep their values."""
+    """Yield differences of scalar registers. Registers that the log doesn't name are unchanged."""
     for number in range(1, 32):
         there = step.commit.x.get(number, step.before.x[number])
         if there not in (after.x[number], after.x[number] + shift):
@@ -80,7 +80,7 @@ def _type_text(sew: int, lmul: Fraction, vl: int) -> str:
 
 
 def _of_control(step: LoggedStep, after: Registers) -> Iterator[Difference]:
-    """Yield differences of control registers. After the log has named one, those that it doesn't name keep their values."""
+    """Yield differences of control registers. Once a log has named a control register, those that a line doesn't name are unchanged."""
     values = {**vars(after.control), "vcsr": after.control.vxrm << 1 | after.control.vxsat, "vlenb": REGISTER_BYTES}
     before = vars(step.before.control) if "control" in step.commit.compared else {}
     for name, there in {**before, **step.commit.control}.items():

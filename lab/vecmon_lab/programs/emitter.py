@@ -38,7 +38,7 @@ class Emitter:
 
     draws: the source of random numbers; has_choices: whether the program may depend on what the standard leaves open
     registers, control: the known properties of registers, and the vector state, after the last instruction
-    drawn: the program; times: how often the next instruction executes, in a loop
+    drawn: the program; times: how many times the next instruction executes, since it is in a loop
     counters: the scalar registers that count the iterations of a loop
     """
 
@@ -53,7 +53,7 @@ class Emitter:
     def emit(self, name: str, bits: int = 0, is_atomic: bool = False, /, **numbers: int) -> bool:
         """Append an instruction; return True. If ten instructions follow the last digest, append a digest first.
 
-        bits: of its operands; is_atomic: whether no digest may be between this instruction and the next one
+        bits: the bits of its operands in the word; is_atomic: whether no digest may be between this instruction and the next one
         numbers: registers by the word's fields, such as `rd`, which replace their part of `bits`
         """
         if self._since >= TENTH and not self._is_atomic:
@@ -81,7 +81,7 @@ class Emitter:
         self._since = 0
 
     def refresh(self, fixed: list[int]) -> None:
-        """Load the registers in which the standard now defines fewer bits than before. fixed: the numbers of bits before"""
+        """Load the registers of which the standard now defines fewer bits than before. fixed: for each register, the number of bits before"""
         for number in range(32):
             if not self.registers.is_fixed(number, [fixed[number]]):
                 self.emit("vl1re8.v", rs1=self.base(), vd=number)

@@ -93,7 +93,7 @@ class _Lockstep:
         return self._agree(step) if step.retired.stop else None
 
     def _step(self, commit: Commit) -> LoggedStep:
-        """Execute an instruction, for one of the log."""
+        """Execute an instruction on the machine, and return it as the step for an instruction of the log. commit: the log's"""
         before = self._stepper.registers.copy()
         self.number += 1
         if self.number == 1 and commit.stack is not None:
@@ -137,7 +137,7 @@ class _Lockstep:
         return LabError(f"{agreed}: the program goes on at {place}. Record all of it, or less of the program")
 
     def _trap(self, step: LoggedStep, following: Commit | None) -> str | None:
-        """Return how one device refused an instruction that the other executed; None if none did. Raises LabError.
+        """Return a text about how one device refused an instruction that the other executed; None if both executed it. Raises LabError.
 
         following: the log's next instruction; None at the log's end
         """

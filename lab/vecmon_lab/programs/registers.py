@@ -67,7 +67,10 @@ class DrawnRegisters:
         return self._draws.choice(fits) if fits else None
 
     def is_fixed(self, first: int, needed_bits: Sequence[int]) -> bool:
-        """Return whether the standard defines these numbers of bits in registers. first: the first register"""
+        """Return whether the standard defines enough bits of consecutive registers.
+
+        first: the first register; needed_bits: the number of lowest bits that are needed, of each register
+        """
         return self._has_choices or all(self.fixed[first + at] >= bits for at, bits in enumerate(needed_bits))
 
     def write(self, name: str, operand: Operand, control: ControlRegisters, is_masked: bool) -> bool:

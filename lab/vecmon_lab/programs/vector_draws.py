@@ -21,7 +21,7 @@ class VectorDraws:
         self._emitter = emitter
 
     def set_type(self, name: str = "") -> bool:
-        """Set a vector type, and a vl that the standard defines. name: of a vset instruction; "" for any"""
+        """Set a vector type, and a vl that the standard defines. name: the name of a vset instruction; "" for any of them"""
         name = name or self._emitter.draws.choice(("vsetvli", "vsetivli", "vsetvl"))
         vtype = self._emitter.draws.choice(SUPPORTED) | self._emitter.draws.randrange(4) << 6
         limit = ControlRegisters(vtype=vtype).vlmax

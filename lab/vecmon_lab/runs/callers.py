@@ -11,7 +11,8 @@ MIN_SHARE, MAX_FRAMES = 0.001, 100  # the least share of all ticks in a frame; t
 class CallFrame:
     """A function below its callers in a call tree.
 
-    own: its ticks for these callers; total: with the ticks of its callees; callees: the functions that it calls, most ticks first
+    own: the ticks of the function itself, for these callers; total: its own ticks and those of its callees
+    callees: the functions that it calls, the one with the most ticks first
     """
 
     name: str

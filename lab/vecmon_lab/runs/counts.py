@@ -19,7 +19,7 @@ from ..tables.table import html_table
 class CountedWord:
     """The executions of a word at an address.
 
-    times: their number; ticks: of all of them
+    times: the number of executions; ticks: the ticks of all executions
     elements: the numbers of active, masked-off and tail elements
     """
 
@@ -32,9 +32,9 @@ class CountedWord:
 
 @dataclass(frozen=True)
 class Counts:
-    """The executed instructions. An exit's call is counted; any other instruction that stops the program isn't.
+    """The executed instructions of a run. An exit's call is counted; any other instruction that stops the program isn't.
 
-    places: by rising address, one for each word that was executed there
+    places: one for each address and each word that was executed there, by rising address
     lengths: the number of vector instructions by vector type and vl
     calls: the number of jumps that link or return, by the address of the jump and its target
     end: the stop, or the program's position when its ticks ran out
@@ -103,5 +103,7 @@ def read_counts(text: str) -> Counts:
             raise ValueError(last)
     except ValueError as error:
         raise LabError(f"{RECORDER} prints no counts: {str(error)[:60]!r}") from error
-    done = sorted((it for it in places if it.times), key=lambda it: (it.address, it.word))  # not what faults at once
+    done = sorted(
+        (it for it in places if it.times), key=lambda it: (it.address, it.word)
+    )  # a word that only faulted was executed 0 times
     return Counts(done, lengths, calls, end, int(instructions), int(ticks))

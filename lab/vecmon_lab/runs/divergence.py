@@ -21,8 +21,8 @@ from .counts import CountedWord, Counts
 from .dataflow import Cell, Executed, conditions, parts
 from .recorder import record
 
-STEPPED = 1000  # instructions that are stepped together, backwards from the one to find
-EXACT_LEAPS = 2  # so often the last change of a value is looked for, and then the first one that made it differ
+STEPPED = 1000  # the most instructions that are stepped at once, up to a change of the value
+EXACT_LEAPS = 2  # searches for the last change of a value; later ones look for the first change that made it differ
 MAX_WRITTEN, SHOWN = 256, 4
 _AGNOSTIC = {"tail": "the tail of", "masked off": "elements masked off by"}
 _CONTROLS = {(name, 0) for name in CONTROL}
@@ -38,7 +38,7 @@ Made = TypeVar("Made")
 class CommonStep:
     """An instruction that two runs execute.
 
-    number: from 1 on; runs: the instruction in each run, with the registers before it
+    number: its number in both runs, from 1; runs: the instruction in each run, with the registers before it
     """
 
     number: int
@@ -90,7 +90,7 @@ def alike_until(pair: Pair, ticks: int) -> int:
 def explain(pair: Pair, number: int, names: Sequence[str], symbols: Symbols) -> Iterator[str]:
     """Yield lines about the instruction at which two runs diverge, the values that it reads, and their origin.
 
-    number: of instructions before the divergence; names: of the runs, in sentences
+    number: the number of instructions before the divergence; names: the names of the two runs, as the lines have them
     """
     first = max(0, number - STEPPED)
     with _guests_at(pair, first) as guests:
@@ -188,7 +188,7 @@ def _never_written(pair: Pair, number: int, places: set[Cell]) -> set[Cell]:
 
 
 def _contents(pair: Pair, number: int, places: set[Cell]) -> Sequence[dict[str, int]]:
-    """Return the values of places in both runs after a number of instructions, by name."""
+    """Return the values of places in both runs after `number` instructions, by the name of the place."""
     with _guests_at(pair, number) as guests:
         return _side_by_side(lambda guest: _values(places, guest, Stepper(guest).registers), guests)
 
@@ -231,7 +231,7 @@ def _listed(places: set[Cell]) -> str:
 
 
 def _put_out_otherwise(guests: Sequence[Guest], before: Registers) -> Iterator[Cell]:
-    """Yield the bytes of a call's output that differ between the runs. before: the registers before the call"""
+    """Yield the bytes of a system call's output that differ between the two runs. before: the registers before the call"""
     address, length = before.x[11], min(before.x[12], MAX_WRITTEN)
     for at, pair in enumerate(zip(*(guest.peek(address, length) for guest in guests))):
         if pair[0] != pair[1]:

@@ -25,7 +25,7 @@ class InitialState:
     image: an ELF file; None for empty memory, and 0 in all registers
     memory: bytes to write over the image, in this order
     registers: lines, each with the name of a register and its value in hexadecimal digits
-    policy: of agnostic elements, `keep` or `ones`
+    policy: the policy for agnostic elements, `keep` or `ones`
     """
 
     image: pathlib.Path | None = None

@@ -88,7 +88,7 @@ def counted(
 ) -> Counts:
     """Return the counts of an image's run. Raises LabError and OSError for bad input.
 
-    arguments: of a command; write: is called with the output; more: further records
+    arguments: a command's arguments, which name the image and its input; write: called with the output; more: further records
     """
     words = [arguments.image.name, *arguments.words]
     initial_state = initial_state_of(arguments.image, words, arguments.input, arguments.policy, arguments.named)
@@ -155,7 +155,7 @@ def _begun(arguments: argparse.Namespace, report: Report = unreported) -> Abstra
 
 
 def _check_window(arguments: argparse.Namespace) -> None:
-    """Raise LabError if a window has neither a trace nor a log, or contains no instruction."""
+    """Raise LabError if the arguments have a window but neither a trace nor a log, or if the window contains no instruction."""
     trace, log = arguments.trace, arguments.log
     if log and not (arguments.ticks or arguments.last or f"{log}".startswith("/dev/")):
         raise LabError("a log needs --ticks or --to, so that it has an end, unless FILE begins with /dev/")
@@ -175,7 +175,7 @@ def _logs(arguments: argparse.Namespace) -> Iterator[Record]:
 
 
 def _write_trace(path: pathlib.Path, file: io.FileIO, lines: Iterator[str]) -> None:
-    """Empty a file, and write lines to it. Raises LabError if they can't be written. path: for the message"""
+    """Empty a file, and write lines to it. Raises LabError if they can't be written. path: the file's path, for the message"""
     try:
         if stat.S_ISREG(os.fstat(file.fileno()).st_mode):
             file.truncate(0)
@@ -188,7 +188,9 @@ def _write_trace(path: pathlib.Path, file: io.FileIO, lines: Iterator[str]) -> N
 
 def _window(arguments: argparse.Namespace, counts: Counts) -> range:
     """Return the numbers of the instructions in a trace of a run. Raises LabError if the run ends before them."""
-    stops = counts.stop is not None and counts.stop.kind != "exit"  # at one more, which has a line, too
+    stops = (
+        counts.stop is not None and counts.stop.kind != "exit"
+    )  # the instruction that stops the run isn't counted, but has a line
     first, last = arguments.first or 1, counts.instructions + stops
     if first > last:
         raise LabError(f"the run has {last:,} instructions, and none from {first:,} on")

@@ -7,7 +7,7 @@ from typing import Literal
 from ...machine.answers import Stop, read
 from ...page.state import State
 
-BLOCK_DIGITS, BLOCKS = 2048, 64  # of output in hexadecimal digits: a page has the last 64 KB
+BLOCK_DIGITS, BLOCKS = 2048, 64  # digits in a block of output, and the most blocks: a page has the last 64 KB
 
 Condition = Literal["Not begun", "Ready", "Running", "Paused", "Ended", "Fault"]
 """The condition of a machine. Ready: its program hasn't executed anything"""

@@ -21,7 +21,7 @@ _GRANTS = {"* slices", "* run"}  # commands that grant slices
 
 
 class History:
-    """The lines of a script that decide what seats show. A script may have a million lines, so most are only counted.
+    """The lines of a script that determine what seats show. A script may have a million lines, so most of them are only counted.
 
     For each seat, the history stores its last lines, the line with its last stop, and those lines since its machine began
     that name places of memory or collect output.
@@ -40,7 +40,7 @@ class History:
         self._places: dict[str, list[Numbered]] = {digit: [] for digit in DIGITS}
 
     def add(self, lines: Sequence[str], answers: Sequence[str]) -> None:
-        """Take up the next lines and their answers."""
+        """Record the next lines and their answers."""
         first, last = max(0, self._set_up - self._count), self._last
         block = zip(range(self._count, self._count + len(lines)), lines, answers)
         for done in islice(block, first):
@@ -54,7 +54,7 @@ class History:
         self._lines.update(lines[first:])
 
     def _add(self, done: Numbered) -> None:
-        """Take up a line after those that set the machine up."""
+        """Record a line that comes after the lines that set the machine up."""
         _, line, answer = done
         digit = line[0]
         if digit == "*":
@@ -82,7 +82,7 @@ class History:
             self._places[digit].append(done)
 
     def _add_set_up(self, done: Numbered) -> None:
-        """Take up a line that sets the machine up. It is stored only for the places of memory that the seat watches."""
+        """Record a line that sets the machine up. It is stored only if it names a place of memory that the seat watches."""
         _, line, answer = done
         digit = line[0]
         if first_word(answer) in _BEGINNINGS:
@@ -109,7 +109,7 @@ class History:
                 yield digit
 
     def tell(self, seats: Seats) -> None:
-        """Pass the lines to new seats, and count the bytes of the script that each has used."""
+        """Pass the recorded lines to new seats, and count the bytes of the script that each seat has used."""
         for _, line, answer in chain(*self._places.values()):
             seats.follow(line, answer.split("\n"))
         stored = {done[0]: done for done in chain(self._turns.values(), *self._last.values(), *self._output.values())}

@@ -42,7 +42,7 @@ class LastRuns:
         self._lines: dict[str, tuple[Session, int]] = {}  # the session, and the line's number in its script
 
     def follow(self, session: Session, line: str, answer: Sequence[str], number: int) -> None:
-        """Take up an executed line and its answer. number: the number of the line in the session's script, from 1 on"""
+        """Record an executed line and its answer. number: the number of the line in the session's script, from 1"""
         digit, words = line[0], words_of(line)
         if may_change(line, answer) and words != ["out"]:
             self._lines.pop(digit, None)
@@ -52,13 +52,13 @@ class LastRuns:
             self._lines[digit] = session, number
 
     def has(self, digit: str) -> bool:
-        """Return whether there is a line for a user, so that `run` may be called."""
+        """Return whether a line is recorded for a user, so that `run` may be called."""
         return digit in self._lines
 
     def run(self, digit: str, present: Session) -> Run | None:
         """Return a user's last run; None if a checkpoint or another script has replaced its line.
 
-        present: the session of the machine now
+        present: the session of the machine at present
         """
         session, number = self._lines[digit]
         return run_at(session, number) if session is present else None
@@ -94,7 +94,7 @@ def state_before(run: Run, digit: str, address: int) -> State | None:
 
 
 def _slices_before(run: Run, digit: str, number: int) -> int:
-    """Return how many slices of a run come before the slice in which a user's program stops; 0 if it doesn't stop.
+    """Return the number of slices of a run before the slice in which a user's program stops; 0 if the program doesn't stop.
 
     number: the number of slices that the run's line grants
     """

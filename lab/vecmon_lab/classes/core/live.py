@@ -25,7 +25,7 @@ def is_servers(line: str) -> bool:
 
 
 def with_output(done: Iterable[tuple[str, Sequence[str]]], states: dict[str, State]) -> dict[str, bool]:
-    """Return by digit the users whose stopped programs may have output: True if the program resumes once its buffer is empty.
+    """Return the users whose stopped programs may have output, by digit, and for each whether the program resumes once its buffer is empty.
 
     done: executed lines and their answers; states: the states of users before these lines, by digit
     """
@@ -47,7 +47,7 @@ def with_output(done: Iterable[tuple[str, Sequence[str]]], states: dict[str, Sta
 
 
 def _calls(state: State, steps: int) -> bool:
-    """Return whether any of the next `steps` instructions after a state may be a system call, by the state's listing."""
+    """Return whether one of the next `steps` instructions after a state may be a system call. The instructions are those of the state's listing."""
     code = state.get("code", {})
     if steps == 1:
         return code.get(state.get("pc", ""), "ecall").endswith("ecall")

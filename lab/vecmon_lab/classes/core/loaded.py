@@ -48,7 +48,7 @@ class Loaded:
         return Loaded(self.starts + 1, is_image)
 
     def take(self, source: SourceText, program: Program) -> None:
-        """Set the source in the machine, its program, and the program's names."""
+        """Record the source in the machine, its program, and the names in the program."""
         self.source, self.program = source, program
         self.names = {"labels": program.names(), "lines": program.source_lines(source.text)}
         if not isinstance(program, CompiledProgram):

@@ -60,15 +60,15 @@ class PastResult(TypedDict):
 
 
 class Budget:
-    """The number of instructions that a seat's replays may still execute. It starts at `share`, and grows each second up to `share`."""
+    """The number of instructions that a seat's replays may still execute. It starts at `share`, and each second it grows, up to `share`."""
 
     def __init__(self, share: int = SHARE, refill: int = REFILL, now: Callable[[], float] = time.monotonic) -> None:
-        """share: in instructions; refill: instructions that are added each second; now: returns the time in seconds"""
+        """share: the largest number of instructions; refill: the instructions that are added each second; now: returns the time in seconds"""
         self._share, self._refill, self._now = share, refill, now
         self._left, self._since = float(share), now()
 
     def check(self) -> None:
-        """Raise BadRequest if the share is used up."""
+        """Raise BadRequest if the budget is used up."""
         now = self._now()
         self._left = min(self._share, self._left + self._refill * (now - self._since))
         self._since = now
@@ -77,14 +77,15 @@ class Budget:
             raise BadRequest(f"going back has used up this seat's share of the processor: try again in {seconds} s")
 
     def spend(self, instructions: int) -> None:
-        """Subtract executed instructions from the rest of the share, which may become negative."""
+        """Subtract instructions that were executed. The rest of the budget may become negative."""
         self._left -= instructions
 
 
 def moment_at(seat: Seat, history: UserHistory, at: int, is_due: IsDue) -> PastResult:
-    """Return the moment after `at` instructions, or the progress of the replay if its time is over first.
+    """Return the moment after `at` instructions, or the progress of the replay if the time is over before the moment is found.
 
-    at: a negative number counts back from the end; is_due: returns whether the time is over
+    at: if it is negative, it counts back from the end; is_due: returns whether the time is over
+
     The result has no moment if `at` is the present or later. Raises LabError if the replay fails.
     """
     number, end = history.run.number, history.count(is_due)
@@ -133,7 +134,10 @@ def _answers(instant: Instant) -> Sequence[Answer]:
 
 
 def _state_of(instant: Instant, watch_set: WatchSet, before: State, answers: Sequence[Answer] = ()) -> State:
-    """Return the state at an instant. before: the state before it; answers: the answers to the step that led to it"""
+    """Return the state at an instant.
+
+    before: the state before this one; answers: the answers to the step that led to the instant
+    """
     state = look_at(instant.guest, watch_set, before, answers)
     state.pop("output", None)
     state.pop("breaks", None)

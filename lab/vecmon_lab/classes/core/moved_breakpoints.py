@@ -8,7 +8,9 @@ from ...assembler.source import Program
 from ...compilers.compiled import CompiledProgram
 
 MAX_BREAKPOINTS = 16  # of a user
-MAX_EQUAL_PAIRS = 100_000  # of an old and a new line; the time of a comparison grows with their number
+MAX_EQUAL_PAIRS = (
+    100_000  # the most pairs of an old line and an equal new line; the time of a comparison grows with their number
+)
 
 
 def moved_breakpoints(addresses: Iterable[int], before: Program, old: str, after: Program, new: str) -> list[int]:

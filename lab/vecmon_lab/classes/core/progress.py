@@ -13,9 +13,9 @@ from .languages import NUMBERS, C, SourceText
 from .bad_request import BadRequest
 from .loaded import TriedCase
 
-MAX_TRIES = 200  # of a seat at an exercise
+MAX_TRIES = 200  # the most tries of a seat at an exercise
 MAX_FAILURES = 50  # the last failed checks, which the teacher sees
-# A student may need somebody if an exercise has been open for this time, and this number of tries has failed.
+# A student may need help if an exercise has been open for this time, and this number of tries has failed.
 STUCK_SECONDS, STUCK_TRIES = 600, 3
 
 Try = TypedDict("Try", {"time": int, "text": str, "suffix": NotRequired[str], "told": CheckResult})
@@ -71,9 +71,9 @@ class ExerciseView(TypedDict):
 class Progress:
     """The progress of a seat in an exercise.
 
-    tries: the time and the number of passed cases of each try; first: the number of the first try that passed, or 0
+    tries: the time of each try, in seconds since 1970, and the number of cases that passed; first: the number of the first try that passed, or 0
     source: the source of the last try; last_result: the result of the last check
-    ticket: opens a lesson on the last try; "" if there is none
+    ticket: the ticket that opens a lesson on the last try; "" if there is none
     """
 
     tries: list[tuple[int, int]] = field(default_factory=list)
@@ -83,7 +83,7 @@ class Progress:
     ticket: str = ""
 
     def add(self, done: Try) -> bool:
-        """Add the result of a check; return whether it counts as a try. A source with mistakes doesn't count."""
+        """Add the result of a check. Return whether it counts as a try, which a source with mistakes doesn't."""
         self.last_result, self.ticket = done["told"], ""
         if "cases" not in self.last_result:
             return False
@@ -116,11 +116,11 @@ class Progress:
 
 
 class Exercises:
-    """Exercises by name, the sources that each may start with, and the progress of each seat.
+    """The exercises of a class by name, the sources that a student may start each with, and the progress of each seat.
 
     by_name: the exercises that students have, in order; known: the names of all exercises that students have or had
-    titles: the titles of these exercises, and of those that the teacher may turn on, by name
-    busy: by seat, the exercise whose answer is being checked; "" while a lesson is built from an answer of the seat
+    titles: the titles of the known exercises, and of those that the teacher may turn on, by name
+    busy: the exercise whose answer is being checked, by seat; "" while a lesson is built from an answer of the seat
     failures: the last checks that failed on the server's side, in order; only the teacher sees them
     """
 
@@ -168,18 +168,18 @@ class Exercises:
             raise BadRequest(f"this seat has tried it {MAX_TRIES} times")
 
     def take(self, seat: str, name: str, done: Try) -> bool:
-        """Take up the result of a check; return whether it counts as a try. Only the teacher sees the cause of a failed check."""
+        """Record the result of a check; return whether it counts as a try. Only the teacher sees the cause of a failed check."""
         if cause := done["told"].pop("failure", ""):
             failure = CheckFailure(seat=seat, exercise=name, time=done["time"], cause=cause)
             self.failures = [*self.failures, failure][-MAX_FAILURES:]
         return self.progress(seat, name).add(done)
 
     def restore(self, seat: str, name: str, done: Try) -> None:
-        """Take up a saved try."""
+        """Restore a saved try."""
         self.progress(seat, name).add(self.with_case_names(name, done))
 
     def forget(self, seat: str, name: str) -> None:
-        """Delete the progress of a seat in an exercise, so that its tries can be taken up again in another order."""
+        """Delete the progress of a seat in an exercise, so that its tries can be restored in another order."""
         self._progress.pop((seat, name), None)
 
     def with_case_names(self, name: str, done: Try) -> Try:
@@ -205,7 +205,7 @@ class Exercises:
         return TriedCase(name, number, lambda start: inputs(exercise, case, start))
 
     def answered(self, ticket: str) -> tuple[str, str, Progress] | None:
-        """Return the seat, the exercise and the progress of the answer whose lesson a ticket opens; None for an unknown ticket."""
+        """Return the answer whose lesson a ticket opens: its seat, its exercise and the seat's progress; None for an unknown ticket."""
         found = ((*key, it) for key, it in self._progress.items() if it.ticket and it.ticket == ticket)
         return next(found, None)
 

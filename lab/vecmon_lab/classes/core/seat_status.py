@@ -34,7 +34,7 @@ class SeatStatus(TypedDict):
     element: NotRequired[int]
 
 
-STUCK_KINDS = ("problems", "fault", "limit")  # a student whose program has such a status may need somebody
+STUCK_KINDS = ("problems", "fault", "limit")  # a student whose program has such a status may need help
 _KINDS: dict[str, StatusKind] = {
     "break": "breakpoint",
     "ebreak": "ebreak",
@@ -68,12 +68,12 @@ class CurrentStatus:
 
     @property
     def is_stuck(self) -> bool:
-        """Whether the student may need somebody."""
+        """Whether the student may need help."""
         return self.value["kind"] in STUCK_KINDS
 
 
 def problems_status(count: int) -> SeatStatus:
-    """Return the status after a source with this number of mistakes."""
+    """Return the status after a source with mistakes. count: the number of mistakes"""
     form = "one" if count == 1 else "other"
     return {"kind": "problems", "text": page_text(f"status.problems.{form}", count=count), "count": count}
 
@@ -95,7 +95,10 @@ def status_of(state: State, last: str) -> SeatStatus:
 
 
 def _stop_status(stop: Stop, word: int | None, vstart: int, name: str) -> SeatStatus:
-    """Return the status after a stop. word, name: the encoding of the instruction at the program counter, and its mnemonic"""
+    """Return the status after a stop.
+
+    word, name: the word and the mnemonic of the instruction at the program counter; vstart: the value of vstart
+    """
     if stop.kind == "exit":
         number = [page_text("status.exit", exit=stop.number)] if stop.number else []
         return {"kind": "ended", "text": " ".join([_WORDS["ended"], *number]), "exit": stop.number}

@@ -127,7 +127,7 @@ class Seats:
         return {digit: seat.execution.stop for digit, seat in self.users.items() if "stop" in seat.state}
 
     def _grant(self, slices: int, digits: set[str]) -> None:
-        """Count granted slices, which the programs of these users shared equally. digits: the digits of the users"""
+        """Add granted slices to the programs of some users, which share them equally. digits: the digits of these users"""
         for digit in digits:
             self.users[digit].execution.slices += slices / len(digits)
 
@@ -140,15 +140,15 @@ class Seats:
                 seat.display.rows = VisibleRows()
 
     def touched(self, done: Sequence[Done]) -> set[str]:
-        """Return the digits of the users that executed lines may have changed.
+        """Return the digits of the users whom executed lines may have changed.
 
-        A user's line may change this user. A line of the operator may change all users whose programs run.
+        A user's line may change only this user. A line of the operator may change all users whose programs run.
         """
         lines = {line[0] for line, _ in done}
         return lines - {"*"} | (self.running() if "*" in lines else set())
 
     def look(self, session: Session, done: Sequence[Done], digits: Iterable[str]) -> dict[str, tuple[State, State]]:
-        """Return the states of users after executed lines, by digit: for each user all that is known, and the part that pages show.
+        """Return the states of users after executed lines, by digit. A state is a pair: all that is known, and the part that pages show.
 
         done: the executed lines with their answers; digits: the digits of the users
         """
@@ -187,8 +187,10 @@ class Seats:
     def observe(self, line: str, answer: Sequence[str], is_reported: bool) -> None:
         """Record a line and its answer at the seats that they concern: logs, output, stops, and bytes of the script.
 
-        is_reported: whether the log of the seat that sent the line has it; false for lines of the clock, and for lines that grant
-            slices to one user. Of lines that the server sends for a seat, a log has only the number of bytes of output.
+        is_reported: whether to add the line to the log of the seat that sent it. It is false for lines of the clock, and for lines that grant
+            slices to one user.
+
+        A log has only the number of bytes of output of lines that the server sends for a seat.
         """
         asker, words = self.users.get(line[0], self.operator), words_of(line)
         if line[0] == "*" and isinstance(granted := read(answer), Granted):

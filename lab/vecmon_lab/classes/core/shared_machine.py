@@ -31,13 +31,13 @@ Mistakes = Sequence[SourceError]
 
 
 class Recorder(Protocol):
-    """Records a script as it grows."""
+    """Records the lines of a script as the script grows."""
 
     def append(self, line: str) -> None:
         """Record a line that will be sent next."""
 
     def cut(self, size: int) -> None:
-        """Remove everything after the first `size` bytes, that is, lines that weren't executed."""
+        """Remove the lines after the first `size` bytes, since they weren't executed."""
 
 
 class SharedMachine:
@@ -51,7 +51,8 @@ class SharedMachine:
     def lines(self, seat: Seat, request: LinesRequest, done: Answers) -> Steps[Answers]:
         """Execute a request's lines and slices; return the answers to its read-only lines.
 
-        done: a list that gets the answers to the executed lines, even if a later line fails
+        done: a list to which the answers to the executed lines are appended, even if a later line fails
+
         Raises BadRequest if the seat's share of the script has no room for the lines; then nothing is executed.
         """
         yield TakeSeat()
@@ -148,7 +149,7 @@ class SharedMachine:
             seat.log.add(f"!The {stopped_by} stopped the program, since {why}. go lets it run on.")
 
     def has_run_long(self, seat: Seat, limit: int) -> str:
-        """Return why a running program must stop: it has run for about `limit` ticks; "" if it hasn't."""
+        """Return the reason why a running program must stop: it has run for about `limit` ticks; "" if it may go on."""
         return (
             f"it ran for {limit:,} ticks without a stop"
             if seat.execution.slices * self.session.quantum >= limit

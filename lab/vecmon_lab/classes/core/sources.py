@@ -112,7 +112,7 @@ class SeatSource:
     def draft(
         self, source: SourceText, number: int, exercise: str = "", is_kept: bool = False, window: str = ""
     ) -> None:
-        """Take up a typed source. It becomes the seat's source, or only a version if the seat's source has changed meanwhile.
+        """Record a typed source. It becomes the seat's source, or only a version if the seat's source has changed since.
 
         number: the number of the seat's source when this one was typed
         exercise: the exercise for which it was typed, or "" for the open one; is_kept: whether it becomes a version in any case
@@ -131,7 +131,7 @@ class SeatSource:
             self._add_version(source, "typed", exercise)
 
     def _keep_apart(self, source: SourceText, exercise: str, window: str) -> None:
-        """Make a window's text a version, which replaces the window's earlier version."""
+        """Make the text of a window a version, in place of the window's earlier version."""
         number = self._windows.get(window)
         for place, version in enumerate(self.versions):
             if (version["number"], version["exercise"], version["language"]) == (number, exercise, source.language):
@@ -149,7 +149,7 @@ class SeatSource:
             del self._windows[next(iter(self._windows))]
 
     def write(self, source: SourceText, number: int = -1) -> None:
-        """Take up a source that is written into memory. The seat's source becomes a version first, if it has changed meanwhile.
+        """Record a source that is written into memory. The seat's source becomes a version first, if it has changed since this one was typed.
 
         number: the number of the seat's source when this one was typed; -1 if it is unknown
         """
@@ -159,7 +159,7 @@ class SeatSource:
         self._add_version(source, "written")
 
     def give(self, source: SourceText) -> bool:
-        """Replace the source by one of the teacher; the student's source becomes a version.
+        """Replace the source by one of the teacher's. The student's source becomes a version.
 
         Return whether the student's source had another text that wasn't empty.
         """
@@ -179,7 +179,10 @@ class SeatSource:
         self._gift = None
 
     def take_back(self) -> bool:
-        """Take the teacher's last source back, unless the student has changed it; return whether the student's earlier source is restored."""
+        """Take the teacher's last source back, unless the student has changed it, and restore the student's earlier source.
+
+        Return whether it is restored.
+        """
         gift, self._gift = self._gift, None
         if gift is None or self.own != gift[0] or gift[0] == gift[1]:
             return False
@@ -250,9 +253,9 @@ class SeatSource:
             self.own, self.number = source, self.number + 1
 
     def _add_version(self, source: SourceText, why: str, exercise: str | None = None) -> None:
-        """Add a version of an exercise, unless it equals the newest one; drop the oldest versions if there are too many.
+        """Add a version of an exercise, unless it equals the newest one. If there are too many versions then, drop the oldest.
 
-        exercise: None for the open one
+        why: its reason: `typed`, `written` or `given`; exercise: None for the open exercise
         """
         exercise = self.exercise if exercise is None else exercise
         if source == (self._newest if exercise == self.exercise else self._newest_of(exercise)):

@@ -19,8 +19,8 @@ from .steps import Steps, Turn
 
 # The most blocks of code that one step executes: within a line, and over calls or out of a function.
 LINE_BLOCKS, CALL_BLOCKS = 256, 1024
-BLOCK_WORDS = 16  # a block's instructions at most
-MAX_LINES = 1000  # through which `step_until` steps at most
+BLOCK_WORDS = 16  # the most instructions in a block
+MAX_LINES = 1000  # the most lines that `step_until` steps through
 LEAVES = "bje"  # first letters of scalar instructions that may branch, jump or call: bne, jal, ecall
 
 _SP = 2  # the number of the stack pointer
@@ -109,7 +109,10 @@ def _calls_at_pc(seat: Seat) -> bool:
 
 
 def _walk(machine: SharedMachine, seat: Seat, kind: StepKind, by_lines: bool) -> Steps[bool]:
-    """Step to the next line, over a call, or out of a function; return whether more steps may follow."""
+    """Step to the next line, over a call, or out of a function. Return whether more steps may follow.
+
+    kind: into calls, over calls, or out of the function; by_lines: whether to step by lines of the source
+    """
     if by_lines and seat.loaded.program is None:
         raise BadRequest("only a program of a source can step a line")
     blocks = LINE_BLOCKS if kind == "into" else CALL_BLOCKS
@@ -168,7 +171,7 @@ class _Walk:
             pc = place
 
     def _block(self, pc: int) -> Sequence[Word]:
-        """Return the instructions from `pc` on, up to the first one that may jump, or after which the walk may end."""
+        """Return the instructions from `pc` on, up to the first one that may jump, or the first one after which the walk may end."""
         listing = read(self._machine.session.look(f"{self._seat.digit} dis {pc:x} {BLOCK_WORDS}"))
         words = listing.words if isinstance(listing, Listing) and listing.words else [Word(pc, 0, "none")]
         ends = (
@@ -215,7 +218,7 @@ class _Walk:
         return registers.x[_SP] if isinstance(registers, ScalarRegisters) else 0
 
     def _step(self, turn: Turn, count: int) -> int | None:
-        """Step `count` instructions; return the program counter, or None at a stop or a breakpoint."""
+        """Step `count` instructions. Return the program counter after them, or None at a stop or a breakpoint."""
         (answer,) = self._machine.do(turn, f"{self._seat.digit} step {count}")
         place = read(answer)
         return place.pc if isinstance(place, Position) and _goes_on(self._machine, self._seat, answer) else None

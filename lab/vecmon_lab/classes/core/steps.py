@@ -51,7 +51,7 @@ class MakeProgram:
 
 @dataclass(frozen=True)
 class WorkApart:
-    """A step that may take seconds and needs no turn at the machine. call: does the work"""
+    """A step that calls a function that may take seconds and needs no turn at the machine. call: the function"""
 
     call: Callable[[], object]
 

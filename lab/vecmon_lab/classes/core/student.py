@@ -142,7 +142,9 @@ class Student:
         check: Checker,
         source: SeatSource | None = None,
     ) -> None:
-        """texts: the store of the seat's source and versions; check: starts checks; source: None for the seat's source in `texts`"""
+        """texts: the store of the seat's source and versions; check: starts the check of an answer
+        source: the seat's source; None to read it from `texts`
+        """
         self.machine, self.seat, self.exercises = machine, seat, exercises
         self.source = source or SeatSource(seat.name, texts)
         self.problems: SourceResult = {"mistakes": [], "warnings": []}
@@ -246,7 +248,7 @@ class Student:
     def _read_past(self, at: int, to_break: bool) -> Steps[PastResult]:
         """Return an earlier state of the program, as `Past.moment` does. Raises BadRequest.
 
-        If the seat's source differs from the source in the machine, the result also has the source in the machine.
+        If the seat's source differs from the source in the machine, the result also has the machine's source.
         """
         result = yield from self.machine.past.moment(self.seat, at, to_break)
         if self.seat.loaded.program and self.source.own != self.seat.loaded.source:
@@ -264,9 +266,9 @@ class Student:
             yield from execute_line(self.machine, self.seat, line)
 
     def _set_breakpoints(self, lines: Sequence[int]) -> Steps[None]:
-        """Set the breakpoints of lines of the source in the machine. lines: the numbers of the lines
+        """Set breakpoints at lines of the source in the machine. lines: the numbers of the lines
 
-        Raises BadRequest if a breakpoint can't be set, but only once all others are set.
+        If some breakpoints can't be set, set the others, and then raise BadRequest.
         """
         stops, breaks = self.seat.loaded.names.get("stops", {}), self.seat.state.get("breaks", [])
         commands, refusals = setting_lines(stops, breaks, lines)
@@ -276,7 +278,7 @@ class Student:
             raise BadRequest(" ".join([*refusals, page_text("breakpoints.loaded")]))
 
     def _draft(self, draft: DraftRequest) -> None:
-        """Take up the text in the editor, and its caret's line. Raises BadRequest for an unknown exercise."""
+        """Record the text in the editor, and the line of its caret. Raises BadRequest for an unknown exercise."""
         if draft.exercise and draft.exercise not in self.exercises.known:
             raise BadRequest("there is no such exercise")
         self.source.draft(draft.source, draft.number, draft.exercise, draft.keep, draft.window)

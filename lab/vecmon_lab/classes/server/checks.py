@@ -107,8 +107,8 @@ class Checks:
     def begin(self, seat: str, name: str, source: SourceText) -> None:
         """Start to check an answer.
 
-        Raises BadRequest if students don't have the exercise, if a check of the seat is under way, if the seat has no more tries, and
-        for a source in C without a compiler.
+        Raises BadRequest if students don't have the exercise, if a check of the seat is under way, if the seat has no more tries, or if
+        the source is in C and there is no compiler.
         """
         self.exercises.exercise(name)
         if source.choice is not None and self._builds.no_c:
@@ -126,7 +126,7 @@ class Checks:
     def resume(self) -> None:
         """Start the checks again that were under way when the last server ended. Called in a running event loop.
 
-        A check is dropped if its try is saved, if its exercise is off, or if it needs a compiler that is missing now.
+        A check is dropped if its try is saved already, if its exercise is turned off, or if it needs a compiler that is missing.
         """
         for file, _ in list(self._store.texts.files(f"{CHECKING}/*.json")):
             seat, pending = pathlib.PurePath(file).stem, self._store.texts.read(
@@ -307,13 +307,13 @@ class Checks:
             return CompiledProgram([], {}, [], 0, [SourceError(0, 0, f"{error}")])
 
     async def _run(self, name: str, what: str, text: str = "", compiled: CompiledProgram | None = None) -> bytes:
-        """Return the output of a process that checks a text, or makes a lesson. what: the task in `exercises/check.py`. Raises LabError."""
+        """Return the output of a process that checks a text, or makes a lesson. what: the request in `exercises/check.py`. Raises LabError."""
         given = pickle.dumps((self._settled[name], text, compiled, self._good.get(name)))
         return await self._workers.run("exercises.check", str(self._store.program), what, script=given)
 
 
 def kept_answers(store: Store, seat: str) -> dict[str, SourceText]:
-    """Return a seat's saved answers by exercise: the last one that passed, or else the last one."""
+    """Return a seat's saved answers by exercise: for each exercise the last answer that passed, or if none passed, the last one."""
     answers, passed = dict[str, SourceText](), set[str]()
     for of, name, _, done in sorted(found_answers(store), key=itemgetter(0, 1, 2)):
         cases, is_passed = done["told"].get("cases", []), passes_all(done["told"])

@@ -36,9 +36,9 @@ def network_of(address: str) -> str:
 
 
 def excess(connections: Iterable[Connection], address: Callable[[Connection], str], limit: int) -> set[Connection]:
-    """Return the connections to end so that `limit` remain. connections: the oldest first; address: returns a connection's address
+    """Return the connections to end so that `limit` remain. The oldest connection of the address with the most connections ends first.
 
-    The oldest connection of the address with the most connections ends first, so that other addresses keep theirs.
+    connections: the oldest first; address: returns the address of a connection
     """
     by_address, ended = _by_address(connections, address), set[Connection]()
     for _ in range(sum(map(len, by_address)) - limit):
@@ -68,11 +68,11 @@ class Crowd(Generic[Connection]):
         return len(self._addresses)
 
     def __iter__(self) -> Iterator[Connection]:
-        """Iterate over the present connections. Later changes don't matter."""
+        """Iterate over the connections that are in the crowd at the time of this call."""
         return iter(list(self._addresses))
 
     def add(self, connection: Connection, address: str) -> None:
-        """Add a connection, and end one if there are too many then."""
+        """Add a connection. If there are too many then, end one."""
         self._addresses[connection] = address
         self._by_address.setdefault(address, OrderedDict())[connection] = None
         if len(self) > self._limit:
@@ -90,7 +90,7 @@ class Crowd(Generic[Connection]):
                 del self._by_address[address]
 
     def pop_newest(self) -> tuple[Connection, str]:
-        """Remove a connection; return it and its address. Addresses take turns, and each gives its newest connection.
+        """Remove a connection; return the connection and its address. The addresses take turns, and each gives up its newest connection.
 
         Raises StopIteration if there is no connection.
         """

@@ -11,7 +11,7 @@ SHOWN = 5  # sentences that pages show
 class Damage:
     """The damage that was found since the class was opened.
 
-    sentences: on each loss, for the teacher; files: names of damaged files, relative to the folder
+    sentences: one about each loss, for the teacher; files: the names of damaged files, relative to the folder
     """
 
     def __init__(self, folder: pathlib.Path, is_reading: bool) -> None:
@@ -21,7 +21,7 @@ class Damage:
         self._folder, self._is_reading = folder, is_reading
 
     def report(self, sentence: str) -> None:
-        """Add a sentence on a loss, unless it is there."""
+        """Add a sentence about a loss, unless it has been added before."""
         if sentence not in self.sentences:
             self.sentences.append(sentence)
 
@@ -33,10 +33,11 @@ class Damage:
         return f"Lost before the class was started: {'; '.join(shown)}." if shown else ""
 
     def set_aside(self, name: str, copied: bytes | None = None) -> str:
-        """Rename a damaged file, or save a copy of it; return the end of a sentence that says so.
+        """Rename a damaged file, or save a copy of it. Return the end of a sentence that reports this.
 
-        name: relative to the folder; copied: the bytes of the copy, for which the file stays; None to rename the file
-        If the class is only read, nothing changes, and "" is returned.
+        name: relative to the folder; copied: the bytes to save as a copy; None to rename the file
+
+        If the class is only read, change nothing, and return "".
         """
         if self._is_reading:
             return ""

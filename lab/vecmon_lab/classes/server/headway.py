@@ -6,7 +6,7 @@ A teacher can't know otherwise that a student who never presses *Check* is stuck
 import time
 from collections.abc import Callable
 
-NO_HEADWAY_SECONDS = 600.0  # after which a student may need somebody
+NO_HEADWAY_SECONDS = 600.0  # after which a student may need help
 MAX_KNOWN = 20_000  # lines and stops; a student who has had more is at work
 
 
@@ -24,7 +24,7 @@ class Headway:
         self._last: tuple[str, str, str, int] | None = None
 
     def follow(self, exercise: str, text: str, pc: str, best: int) -> None:
-        """Take up the present state of the student's work.
+        """Record the present state of the student's work.
 
         exercise: the open exercise; text: the text of its source; pc: the program counter of the stopped program, or ""
         best: the most cases that passed in one try

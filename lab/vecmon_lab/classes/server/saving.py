@@ -14,9 +14,9 @@ COUNTS_SECONDS = 1.0  # between notes of a machine that only count more lines
 
 
 class Saving:
-    """Saves the sources of students and the notes of machines.
+    """Saves the sources of students and the notes on machines.
 
-    warning: the reason why something isn't saved, for pages; "" if all is
+    warning: the reason why something isn't saved, for pages; "" if everything is saved
     """
 
     def __init__(
@@ -26,7 +26,7 @@ class Saving:
         students: Mapping[str, Student],
         tell: Callable[[Iterable[str]], object],
     ) -> None:
-        """rooms: by the letter of the machine; students: by seat; tell: is called with the names of seats that have news"""
+        """rooms: the rooms by the letter of their machine; students: the students by seat; tell: called with the names of seats that have news"""
         self.warning = ""
         self._store, self._rooms, self._students, self._tell = store, rooms, students, tell
         self._saved: dict[str, tuple[Notes, float]] = {}  # by machine, the saved notes, and when they were saved

@@ -22,9 +22,7 @@ NEXT_SCRIPT_BYTES, NEXT_SCRIPT_SECONDS = (
     300.0,
 )  # of a script, after which the next one starts; a server executes the last one when it starts
 MAX_SET_UP_BYTES = 9_000_000  # of the lines with which the next script sets the machine up
-MAX_BEHIND = (
-    3.0  # times the weight at which a checkpoint is due; above it, no slices are granted until there is a checkpoint
-)
+MAX_BEHIND = 3.0  # a multiple of the weight at which a checkpoint is due; above it, no slices are granted until there is a checkpoint
 
 
 Saver = Callable[[Session, Sequence[int], Mapping[str, str]], bool]

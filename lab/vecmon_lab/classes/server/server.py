@@ -73,7 +73,7 @@ CROWDED = 4429  # the status of a socket that is closed since its seat has too m
 
 
 class Server:
-    """The requests to a class by HTTP: who may make them, and the responses."""
+    """Answers the HTTP requests to a class, if the client may make them."""
 
     def __init__(self, members: Class, names: set[str]) -> None:
         """names: of this host, by which pages may be opened, in addition to all numeric addresses"""
@@ -172,7 +172,7 @@ class Server:
         return web.Response(body=table(self.members), content_type="text/csv", charset="utf-8")
 
     async def _get_ticket(self, kind: Page, request: web.Request) -> web.Response:
-        """Return a lesson or listings, if the request has the ticket. The response has the content policy of this kind of page.
+        """Respond to a request for a lesson or for listings, which has the page's ticket. kind: the kind of page, which has its content policy
 
         The status is 404 if there is no such page, and 503 if the process that makes it fails or takes too long.
         """

@@ -104,7 +104,7 @@ class OwnScript:
             yield f"* slices {number}"
 
     def _grant(self, line: str, answer: Sequence[str]) -> None:
-        """Take up the slices of an operator's line. Programs may stop only in its last slice."""
+        """Count the slices that an operator's line grants. A program may stop only in the line's last slice."""
         granted, words = read(answer), words_of(line)
         if not isinstance(granted, Granted) or not granted.slices:
             return

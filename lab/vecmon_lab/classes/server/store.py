@@ -38,8 +38,9 @@ from .stored_files import SCRIPT_NAME, Facts, codes
 class Store:
     """The folder of a class, which no other server has until `close`.
 
-    program: the program that executes the class; has_new_program: whether another one served the class before
-    images: by name; quantum: ticks of a slice; machines: their letters; codes: of seats and the teacher
+    program: the program that executes the class; has_new_program: whether another program served the class before
+    images: the paths of the images by name; quantum: the ticks of a slice; machines: the letters of the machines
+    codes: the codes of seats and the teacher
     damage: the damage that was found when the class was opened; texts: the small files; scripts: the scripts of the machines
     """
 
@@ -141,7 +142,7 @@ class Store:
             raise BadFolder(self.texts.warning)
 
     def check_program(self) -> bool:
-        """Return whether the program is there. Raises BadFolder if another program has replaced it, as an upgrade does."""
+        """Return whether the program exists. Raises BadFolder if another program has replaced it, as an upgrade does."""
         try:
             if digest_of(self.program) == self._program_digest:
                 return True

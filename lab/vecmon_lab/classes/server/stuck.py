@@ -13,7 +13,7 @@ class StuckStudents:
     """Finds the students who may need help."""
 
     def __init__(self, students: Mapping[str, Student], exercises: Exercises, tabs: Collection[Tab]) -> None:
-        """students: by seat; tabs: the open ones"""
+        """students: the students by seat; tabs: the open tabs"""
         self._students, self._exercises, self._tabs = students, exercises, tabs
         self._headway = defaultdict[str, Headway](Headway)
         self._stuck: list[str] = []  # the seats at the last look

@@ -106,7 +106,7 @@ class TabSocket:
         await self._send(await self._page.respond(text, partial(self._tabs.respond, self._tab, text)))
 
     async def _refuse(self, text: str) -> None:
-        """Refuse a request, since too many wait."""
+        """Refuse a request, since too many requests wait."""
         await self._send(await self._tabs.respond(self._tab, text, TOO_MANY_WAIT))
 
     async def _push(self) -> None:
@@ -123,7 +123,7 @@ class TabSocket:
             await self._socket.close(code=CLOSED, message=b"another code")
 
     async def _send_news(self) -> None:
-        """Send what has changed since the last message, if anything has."""
+        """Send the changes since the last message, if there are any."""
         if changes := self._tabs.news(self._tab):
             await self._send(with_changes(News(kind="news"), changes))
 

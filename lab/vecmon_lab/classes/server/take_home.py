@@ -49,7 +49,7 @@ def steps_of(lines: Sequence[str]) -> list[Step]:
 
 
 def _frames(step: Step) -> int:
-    """Return the most frames that a step makes if its first line is `step N`; 0 for other lines."""
+    """Return the most frames that a step makes: N if its first line is `step N`; 0 for other lines."""
     words = words_of(step.lines[0])
     return int(words[1]) if words[0] == "step" and words[1:] and words[1].isdecimal() and len(words[1]) < 4 else 0
 
