@@ -40,10 +40,11 @@ UNCHECKED = "The answer couldn't be checked, which isn't your fault. Nothing was
 
 
 class NumberRow(TypedDict):
-    """Numbers in a row.
+    """Numbers of a place in a row.
 
-    where: the place; register: the name of a scalar register, which has one number
-    first: the index of the first number that is shown; more: how many follow those that are shown; wrong: places of wrong ones
+    where: a description of the place; register: the name of a scalar register, which has one number
+    first: the index of the first number that is shown; more: the number of further numbers after those that are shown
+    wrong: the indices of wrong numbers among those that are shown
     """
 
     where: str
@@ -63,20 +64,22 @@ class CaseRows(TypedDict):
 
 
 class CaseResult(TypedDict):
-    """A case of an exercise by its name, and whether an answer passes it."""
+    """The result of a case of an exercise. name: the name of the case; passed: whether the answer passes it"""
 
     name: str
     passed: bool
 
 
 class CheckResult(TypedDict):
-    """The result of each case; of the first visible one that fails its number and why; the cost of an answer that passes.
+    """The result of a check.
 
-    Rows have what is given there, expected and found, and notes what else holds there. Without cases the source has
-    mistakes, and wasn't tried. Warnings are a compiler's.
-    cause: of the first wrong number, if it is known
-    failure: why the check itself failed, which says nothing about the source; then there are no cases
-    unchecked: a sentence that says so to the student, without the cause
+    mistakes: the mistakes of the source; then there are no cases; warnings: a compiler's warnings
+    cases: the result of each case; number, reason: the index of the first visible case that fails, and the reason why it fails
+    cause: the cause of the first wrong number in this case, if it is known
+    given, expected, found: rows of the inputs, the expected results and the results of this case; notes: sentences about the state before it
+    taken: the cost of an answer that passes; good: the cost of a good answer, if it is known
+    failure: the reason why the check itself failed, which doesn't depend on the source; then there are no cases
+    unchecked: a sentence for the student that the source wasn't checked, without the reason
     """
 
     failure: NotRequired[str]

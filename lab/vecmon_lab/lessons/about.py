@@ -17,7 +17,7 @@ MAX_POINTS, MAX_NUMBERS, MAX_LETTERS, MAX_PLACES = 3, 12, 40, 8
 class About(TypedDict):
     """Sentences of a lesson's first frame, with backquotes around code.
 
-    points: the subjects of the lesson; memory: the data of its source, or the variables that all functions know
+    points: the subjects of the lesson; memory: the data of its source, or its global variables
     """
 
     points: list[str]

@@ -17,7 +17,7 @@ from .used_registers import UsedRegisters
 
 
 class FrameData(TypedDict):
-    """A frame of a lesson (`Frame` in lessons/frames.py). states: a merge patch of the states of the frame before, by user"""
+    """A frame of a lesson, with the fields of `Frame`. states: a merge patch of the states of the frame before, by user"""
 
     user: str
     line: str
@@ -30,8 +30,8 @@ class FrameData(TypedDict):
 class LessonData(SourceNames):
     """The data of a lesson's page: the names of its source, and its frames.
 
-    text: of the source, as it was written
-    name: the name of a series with that of the lesson, by which the browser stores that it was read
+    text: the text of the source, as it was written
+    name: the name of a series and of the lesson in it; the browser stores under this name that the lesson was read
     used: the registers that the lesson uses, by user
     types: the vector types at the lines of an assembler source
     """

@@ -17,8 +17,8 @@ class SeriesLesson(TypedDict):
 class Series(TypedDict):
     """The place of a lesson in a series.
 
-    name: `tour` or `course`, below which the browser stores which lessons were read
-    lessons: in their order; place: the index of this one
+    name: `tour` or `course`, under which the browser stores the names of lessons that were read
+    lessons: all lessons of the series, in order; place: the index of this lesson
     """
 
     name: str

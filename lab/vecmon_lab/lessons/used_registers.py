@@ -13,7 +13,7 @@ from ..page.state import State, control_of
 
 
 class UsedRegisters(TypedDict):
-    """The numbers of scalar and of vector registers, each in rising order; x0 isn't among them."""
+    """The registers that a user's lines and instructions use. x, v: the numbers of scalar and vector registers, in rising order, without x0"""
 
     x: list[int]
     v: list[int]

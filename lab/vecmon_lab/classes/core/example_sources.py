@@ -20,8 +20,8 @@ _OF_LESSONS = re.compile(
 class ExampleSource(TypedDict):
     """A source that the start page offers.
 
-    group: the heading that it is below; name: of its file; about: a sentence, with backquotes around code
-    language: its number
+    group: the heading above it; name: the name of its file; about: a sentence about it, with backquotes around code
+    language: the number of its language
     """
 
     group: str

@@ -20,10 +20,10 @@ REFILL = 5_000_000  # instructions by which the rest of the share grows each sec
 
 
 class HistoryView(TypedDict):
-    """The history of a seat's program, as far as it is known.
+    """The history of a seat's program.
 
-    number: how often the history has begun: moments of another number are of another program
-    end: the number of instructions that the program has executed, once they are counted
+    number: the number of the history; another program has a history with another number
+    end: the number of instructions that the program has executed; missing until they are counted
     """
 
     number: int
@@ -31,11 +31,11 @@ class HistoryView(TypedDict):
 
 
 class Moment(TypedDict):
-    """An earlier state.
+    """An earlier state of a program.
 
-    at: the number of instructions before it; end: their number up to the present
-    state, before: this state, and the one before its last instruction, both without names of the source and breakpoints
-    condition: of the machine in this state
+    at: the number of instructions before this state; end: the number of instructions before the present state
+    state, before: this state, and the state before its last instruction, both without the names of the source and without breakpoints
+    condition: the condition of the machine in this state
     """
 
     at: int
@@ -46,9 +46,10 @@ class Moment(TypedDict):
 
 
 class PastResult(TypedDict):
-    """A moment, or the progress of a replay, which the same request continues.
+    """A moment, or the progress of the replay that finds it. Another request for the same moment continues the replay.
 
-    number: of the history; moment: missing if it is the present; percent: the progress, if the replay isn't complete
+    number: the number of the history; moment: the moment; missing if it is the present
+    percent: the progress of the replay; missing if the replay is complete
     text, language: the source in the machine, if the seat's source differs from it
     """
 

@@ -31,7 +31,10 @@ in one try; and the time of the first try that passed, or else of the last one, 
 
 
 class CaseView(TypedDict):
-    """A case of an exercise: its name, and whether it is hidden; for a visible one, its inputs and expected results."""
+    """A case of an exercise.
+
+    name: the name of the case; hidden: whether the case is hidden; shown: its inputs and expected results; missing if it is hidden
+    """
 
     name: str
     hidden: bool
@@ -41,13 +44,13 @@ class CaseView(TypedDict):
 class ExerciseView(TypedDict):
     """An exercise on a student's page.
 
-    number: its place among the exercises, from 1 on
-    starts: sources to start with, the preferred one first: one in assembler, one in C, or both
-    unsigned: whether all numbers in the memory of its cases are unsigned, and so those that the page shows
-    hints: those that are due; hint_count: the number of all hints; best: the most cases that passed in one try
+    number: its place among the exercises, from 1
+    starts: the sources to start with, the preferred one first: one in assembler, one in C, or both
+    unsigned: whether all numbers in the memory of its cases are unsigned, so that the page shows numbers in memory as unsigned
+    hints: the hints that the student may see; hint_count: the number of all hints; best: the most cases that passed in one try
     told: the result of the last check; checking: whether an answer is being checked
-    before: the path of the lesson before it; "" for none
-    lesson: the path of a lesson of the case that failed first; "" for none
+    before: the path of the lesson that comes before the exercise; "" if there is none
+    lesson: the path of a lesson on the case that failed first; "" if there is none
     """
 
     number: int

@@ -17,11 +17,11 @@ StatusKind = Literal[
 class SeatStatus(TypedDict):
     """The status of a seat's program.
 
-    kind: `none` without a program; `problems` if the last source has some and isn't in the machine; `paused` before an instruction;
-        `breakpoint`, `ebreak`, `ended` or `fault` after a stop; `output` while its output buffer is full; `limit` if the server
-        stopped it, since it ran too long, or nobody looked at it
+    kind: `none` without a program; `problems` if the last source has mistakes and isn't in the machine; `paused` before an instruction;
+        `breakpoint`, `ebreak`, `ended` or `fault` after a stop; `output` while the output buffer is full; `limit` if the server has
+        stopped the program, since it ran too long, or since nobody looked at it
     text: the same in a few words
-    count: of problems; exit: the status with which the program ended
+    count: the number of mistakes; exit: the exit status of the program
     instruction: the mnemonic of the instruction at the program counter, if it is known
     element: the index of the element at which a vector access faults
     """

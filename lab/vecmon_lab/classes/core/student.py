@@ -65,7 +65,7 @@ Checker = Callable[[str, str, SourceText], None]
 
 
 class Share(TypedDict):
-    """Bytes of the script: `used` by the seat, `of` its share."""
+    """A seat's share of the script. used: the number of bytes that the seat has used; of: the number of bytes that it may use"""
 
     used: int
     of: int
@@ -75,9 +75,9 @@ class SeatPart(TypedDict):
     """The fields of a student's view that belong to the seat.
 
     stop: the last stop line without the digit; "" since `enter` or `go`
-    quantum: ticks of a slice; again: whether a loaded source can be started again
-    languages: names of source languages, numbered by their place; exercises: by name
-    history: of the program since its machine began
+    quantum: the ticks of a slice; again: whether a loaded source can be started again
+    languages: the names of source languages; a language's number is its index; exercises: the exercises by name
+    history: the history of the program since its machine began
     """
 
     seat: str
@@ -94,17 +94,20 @@ class SeatPart(TypedDict):
 
 
 class ClassView(TypedDict):
-    """The other fields of a student's view.
+    """The fields of a student's view that don't belong to the seat.
 
-    title: of a page without a class, such as its file's name; "" in a class
+    title: the title of a page without a class, such as its file's name; "" in a class
     class_title: the title of the class; "" without one
-    name: the student's, or ""; messages: the teacher's last ones by number, oldest first; images: names for `load`
-    clock: whether it is on; own_slices: whether the student may grant slices
-    windows: how many windows the seat is open in, if there are two or more
-    hand: the student's, while it is up
-    examples: of a page that starts without a source
-    no_c: why C is missing, or ""; against: compilers with options for side-by-side listings, numbered alike; none in a class
-    ready: whether the machine takes lines, otherwise requests wait; trouble: a text for a banner, or ""
+    name: the student's name, or ""; messages: the teacher's last messages by number, the oldest first
+    images: the names that `load` accepts
+    clock: whether the clock is on; own_slices: whether the student may grant slices
+    windows: the number of windows in which the seat is open; missing if there is only one
+    hand: the student's raised hand; missing if no hand is up
+    examples: the sources that the start page offers; missing on other pages
+    no_c: the reason why sources in C aren't accepted, or ""
+    against: compilers with their options, for side-by-side listings; the number of each is its index; none in a class
+    ready: whether the machine takes lines; otherwise requests wait
+    trouble: a text for a banner, or ""
     """
 
     title: str

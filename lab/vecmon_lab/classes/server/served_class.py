@@ -31,7 +31,10 @@ from .tab import Tab
 
 
 class Given(TypedDict):
-    """The last source that was given and can be taken back: the seats, none for all, and how many of them had another text."""
+    """The last source that was given to seats, while it can be taken back.
+
+    seats: the names of the seats, none for all seats; replaced: the number of seats where it replaced another text
+    """
 
     seats: list[str]
     replaced: int

@@ -23,7 +23,8 @@ from .tab import Tab
 class WallView(TypedDict):
     """The wall's view.
 
-    seat: that it shows, or ""; stop: the seat's last stop line; trouble: a text for a banner, or ""
+    seat: the name of the seat that the wall shows, or ""; stop: the seat's last stop line
+    trouble: a text for a banner, or ""
     """
 
     seat: str
@@ -33,16 +34,17 @@ class WallView(TypedDict):
 
 
 class SeatView(TypedDict):
-    """The teacher's view of a seat.
+    """The teacher's view of a seat. Times are in seconds since 1970.
 
-    tabs: the number of open ones; active: when one of them made its last request; 0 without one
-    status: of its program; since: when that began
+    tabs: the number of open tabs; active: the time when a tab of the seat made its last request; 0 if none has made one
+    status: the status of the seat's program; since: the time when the status began
     line, answer: the last command, and the last line of an answer
-    exercise: the first one or the one that the student opened, or ""; exercise_since: when it was opened; 0 before
-    stuck: whether the student may need somebody: the program has problems, a fault, or ran too long; the exercise has been open for
-        10 minutes with 3 failed tries; or there was no headway for 10 minutes. stuck_since: when that began; missing otherwise
-    changed: whether its source differs from the newest version
-    used: bytes of the script; hand: while it is up. Times are in seconds since 1970.
+    exercise: the name of the open exercise, or ""; exercise_since: the time when the student opened it; 0 if that is unknown
+    stuck: whether the student may need help, for one of these reasons: the program has mistakes, has faulted or ran too long; the exercise has
+        been open for 10 minutes and 3 tries have failed; the student has made no progress for 10 minutes
+    stuck_since: the time at which this began; missing if `stuck` is false
+    changed: whether the seat's source differs from its newest version
+    used: the number of bytes of the script that the seat has used; hand: the student's raised hand; missing if no hand is up
     """
 
     name: str
@@ -74,8 +76,9 @@ class ClockView(TypedDict):
 class MachineView(TypedDict):
     """The teacher's view of a machine.
 
-    seats: by digit; script, lines: the bytes and lines of the last script; of: the limit of bytes; scripts: their number
-    digest: the SHA-256 of all answers; restarts: of the process; loss: the reason of the last restart, or ""
+    seats: the seats by digit; script, lines: the numbers of bytes and of lines of the last script; of: the most bytes of a script
+    scripts: the number of scripts; digest: the SHA-256 of all answers
+    restarts: the number of restarts of the machine's process; loss: the reason of the last restart, or ""
     """
 
     seats: dict[str, SeatView]
@@ -92,7 +95,10 @@ class MachineView(TypedDict):
 
 
 class Outcome(TypedDict):
-    """The work of a seat at its open exercise: the number of tries, whether one is checked now, and the result of the last check."""
+    """The work of a seat at its open exercise.
+
+    tries: the number of tries; checking: whether an answer is being checked; told: the result of the last check
+    """
 
     exercise: str
     tries: int
@@ -103,12 +109,13 @@ class Outcome(TypedDict):
 class TeacherView(TypedDict):
     """The teacher's view.
 
-    class_title: the title of the class; machines: by letter; share: a seat's bytes of the script
-    shoulder: the observed seat, or ""; state, history, source: of that seat
-    caret: the number of the line in which its student typed last, or 0; problems: of its last source; outcome: of its open exercise
-    wall: the seat on the wall, or ""; address: where students reach the class, or ""
-    course: the exercises that may be turned on; exercises: the results by name
-    sent: the last messages by number, oldest first; given: the last given source, while it can be taken back
+    class_title: the title of the class; machines: the machines by letter; share: the bytes of the script that a seat may use
+    shoulder: the name of the observed seat, or ""; state, history, source: those of the observed seat
+    caret: the number of the line in which the observed student typed last, or 0; problems: the problems of the last source that was built
+    outcome: the work at the observed seat's open exercise
+    wall: the name of the seat on the wall, or ""; address: the address of the class for students, or ""
+    course: the exercises that may be turned on; exercises: the results by the exercise's name
+    sent: the last messages by number, the oldest first; given: the last given source; missing if it can't be taken back
     unencrypted: whether codes travel unencrypted to other computers
     """
 

@@ -46,7 +46,7 @@ export interface CaseRequest {
   breaks?: number[];
 }
 
-/** A case of an exercise by its name, and whether an answer passes it. */
+/** The result of a case of an exercise. name: the name of the case; passed: whether the answer passes it */
 export interface CaseResult {
   name: string;
   passed: boolean;
@@ -59,7 +59,11 @@ export interface CaseRows {
   notes: string[];
 }
 
-/** A case of an exercise: its name, and whether it is hidden; for a visible one, its inputs and expected results. */
+/**
+ * A case of an exercise.
+ *
+ * name: the name of the case; hidden: whether the case is hidden; shown: its inputs and expected results; missing if it is hidden
+ */
 export interface CaseView {
   name: string;
   hidden: boolean;
@@ -83,13 +87,15 @@ export interface CheckRequest {
 }
 
 /**
- * The result of each case; of the first visible one that fails its number and why; the cost of an answer that passes.
+ * The result of a check.
  *
- * Rows have what is given there, expected and found, and notes what else holds there. Without cases the source has
- * mistakes, and wasn't tried. Warnings are a compiler's.
- * cause: of the first wrong number, if it is known
- * failure: why the check itself failed, which says nothing about the source; then there are no cases
- * unchecked: a sentence that says so to the student, without the cause
+ * mistakes: the mistakes of the source; then there are no cases; warnings: a compiler's warnings
+ * cases: the result of each case; number, reason: the index of the first visible case that fails, and the reason why it fails
+ * cause: the cause of the first wrong number in this case, if it is known
+ * given, expected, found: rows of the inputs, the expected results and the results of this case; notes: sentences about the state before it
+ * taken: the cost of an answer that passes; good: the cost of a good answer, if it is known
+ * failure: the reason why the check itself failed, which doesn't depend on the source; then there are no cases
+ * unchecked: a sentence for the student that the source wasn't checked, without the reason
  */
 export interface CheckResult {
   failure?: string;
@@ -196,8 +202,8 @@ export interface EmptyResponse {
 /**
  * A source that the start page offers.
  *
- * group: the heading that it is below; name: of its file; about: a sentence, with backquotes around code
- * language: its number
+ * group: the heading above it; name: the name of its file; about: a sentence about it, with backquotes around code
+ * language: the number of its language
  */
 export interface ExampleSource {
   group: string;
@@ -217,13 +223,13 @@ export interface ExerciseTable {
 /**
  * An exercise on a student's page.
  *
- * number: its place among the exercises, from 1 on
- * starts: sources to start with, the preferred one first: one in assembler, one in C, or both
- * unsigned: whether all numbers in the memory of its cases are unsigned, and so those that the page shows
- * hints: those that are due; hint_count: the number of all hints; best: the most cases that passed in one try
+ * number: its place among the exercises, from 1
+ * starts: the sources to start with, the preferred one first: one in assembler, one in C, or both
+ * unsigned: whether all numbers in the memory of its cases are unsigned, so that the page shows numbers in memory as unsigned
+ * hints: the hints that the student may see; hint_count: the number of all hints; best: the most cases that passed in one try
  * told: the result of the last check; checking: whether an answer is being checked
- * before: the path of the lesson before it; "" for none
- * lesson: the path of a lesson of the case that failed first; "" for none
+ * before: the path of the lesson that comes before the exercise; "" if there is none
+ * lesson: the path of a lesson on the case that failed first; "" if there is none
  */
 export interface ExerciseView {
   number: number;
@@ -251,7 +257,7 @@ export interface ExercisesRequest {
   on: string[];
 }
 
-/** A frame of a lesson (`Frame` in lessons/frames.py). states: a merge patch of the states of the frame before, by user */
+/** A frame of a lesson, with the fields of `Frame`. states: a merge patch of the states of the frame before, by user */
 export interface FrameData {
   user: string;
   line: string;
@@ -275,7 +281,11 @@ export interface GiveRequest {
   title?: string;
 }
 
-/** The last source that was given and can be taken back: the seats, none for all, and how many of them had another text. */
+/**
+ * The last source that was given to seats, while it can be taken back.
+ *
+ * seats: the names of the seats, none for all seats; replaced: the number of seats where it replaced another text
+ */
 export interface Given {
   seats: string[];
   replaced: number;
@@ -311,10 +321,10 @@ export interface Hello {
 }
 
 /**
- * The history of a seat's program, as far as it is known.
+ * The history of a seat's program.
  *
- * number: how often the history has begun: moments of another number are of another program
- * end: the number of instructions that the program has executed, once they are counted
+ * number: the number of the history; another program has a history with another number
+ * end: the number of instructions that the program has executed; missing until they are counted
  */
 export interface HistoryView {
   number: number;
@@ -330,8 +340,8 @@ export interface LastInstructionRequest {
 /**
  * The data of a lesson's page: the names of its source, and its frames.
  *
- * text: of the source, as it was written
- * name: the name of a series with that of the lesson, by which the browser stores that it was read
+ * text: the text of the source, as it was written
+ * name: the name of a series and of the lesson in it; the browser stores under this name that the lesson was read
  * used: the registers that the lesson uses, by user
  * types: the vector types at the lines of an assembler source
  */
@@ -429,8 +439,9 @@ export interface MachineLinesRequest {
 /**
  * The teacher's view of a machine.
  *
- * seats: by digit; script, lines: the bytes and lines of the last script; of: the limit of bytes; scripts: their number
- * digest: the SHA-256 of all answers; restarts: of the process; loss: the reason of the last restart, or ""
+ * seats: the seats by digit; script, lines: the numbers of bytes and of lines of the last script; of: the most bytes of a script
+ * scripts: the number of scripts; digest: the SHA-256 of all answers
+ * restarts: the number of restarts of the machine's process; loss: the reason of the last restart, or ""
  */
 export interface MachineView {
   seats: { [name: string]: SeatView };
@@ -465,11 +476,11 @@ export interface Mistake {
 }
 
 /**
- * An earlier state.
+ * An earlier state of a program.
  *
- * at: the number of instructions before it; end: their number up to the present
- * state, before: this state, and the one before its last instruction, both without names of the source and breakpoints
- * condition: of the machine in this state
+ * at: the number of instructions before this state; end: the number of instructions before the present state
+ * state, before: this state, and the state before its last instruction, both without the names of the source and without breakpoints
+ * condition: the condition of the machine in this state
  */
 export interface Moment {
   at: number;
@@ -505,10 +516,11 @@ export interface Notice {
 }
 
 /**
- * Numbers in a row.
+ * Numbers of a place in a row.
  *
- * where: the place; register: the name of a scalar register, which has one number
- * first: the index of the first number that is shown; more: how many follow those that are shown; wrong: places of wrong ones
+ * where: a description of the place; register: the name of a scalar register, which has one number
+ * first: the index of the first number that is shown; more: the number of further numbers after those that are shown
+ * wrong: the indices of wrong numbers among those that are shown
  */
 export interface NumberRow {
   where: string;
@@ -555,7 +567,11 @@ export interface OpenRequest {
   exercise: string;
 }
 
-/** The work of a seat at its open exercise: the number of tries, whether one is checked now, and the result of the last check. */
+/**
+ * The work of a seat at its open exercise.
+ *
+ * tries: the number of tries; checking: whether an answer is being checked; told: the result of the last check
+ */
 export interface Outcome {
   exercise: string;
   tries: number;
@@ -723,11 +739,11 @@ export interface SeatResult {
 /**
  * The status of a seat's program.
  *
- * kind: `none` without a program; `problems` if the last source has some and isn't in the machine; `paused` before an instruction;
- *     `breakpoint`, `ebreak`, `ended` or `fault` after a stop; `output` while its output buffer is full; `limit` if the server
- *     stopped it, since it ran too long, or nobody looked at it
+ * kind: `none` without a program; `problems` if the last source has mistakes and isn't in the machine; `paused` before an instruction;
+ *     `breakpoint`, `ebreak`, `ended` or `fault` after a stop; `output` while the output buffer is full; `limit` if the server has
+ *     stopped the program, since it ran too long, or since nobody looked at it
  * text: the same in a few words
- * count: of problems; exit: the status with which the program ended
+ * count: the number of mistakes; exit: the exit status of the program
  * instruction: the mnemonic of the instruction at the program counter, if it is known
  * element: the index of the element at which a vector access faults
  */
@@ -741,16 +757,17 @@ export interface SeatStatus {
 }
 
 /**
- * The teacher's view of a seat.
+ * The teacher's view of a seat. Times are in seconds since 1970.
  *
- * tabs: the number of open ones; active: when one of them made its last request; 0 without one
- * status: of its program; since: when that began
+ * tabs: the number of open tabs; active: the time when a tab of the seat made its last request; 0 if none has made one
+ * status: the status of the seat's program; since: the time when the status began
  * line, answer: the last command, and the last line of an answer
- * exercise: the first one or the one that the student opened, or ""; exercise_since: when it was opened; 0 before
- * stuck: whether the student may need somebody: the program has problems, a fault, or ran too long; the exercise has been open for
- *     10 minutes with 3 failed tries; or there was no headway for 10 minutes. stuck_since: when that began; missing otherwise
- * changed: whether its source differs from the newest version
- * used: bytes of the script; hand: while it is up. Times are in seconds since 1970.
+ * exercise: the name of the open exercise, or ""; exercise_since: the time when the student opened it; 0 if that is unknown
+ * stuck: whether the student may need help, for one of these reasons: the program has mistakes, has faulted or ran too long; the exercise has
+ *     been open for 10 minutes and 3 tries have failed; the student has made no progress for 10 minutes
+ * stuck_since: the time at which this began; missing if `stuck` is false
+ * changed: whether the seat's source differs from its newest version
+ * used: the number of bytes of the script that the seat has used; hand: the student's raised hand; missing if no hand is up
  */
 export interface SeatView {
   name: string;
@@ -784,7 +801,7 @@ export interface SentNotice {
   opened: string[];
 }
 
-/** Bytes of the script: `used` by the seat, `of` its share. */
+/** A seat's share of the script. used: the number of bytes that the seat has used; of: the number of bytes that it may use */
 export interface Share {
   used: number;
   of: number;
@@ -1137,12 +1154,13 @@ export interface TakeBackRequest {
 /**
  * The teacher's view.
  *
- * class_title: the title of the class; machines: by letter; share: a seat's bytes of the script
- * shoulder: the observed seat, or ""; state, history, source: of that seat
- * caret: the number of the line in which its student typed last, or 0; problems: of its last source; outcome: of its open exercise
- * wall: the seat on the wall, or ""; address: where students reach the class, or ""
- * course: the exercises that may be turned on; exercises: the results by name
- * sent: the last messages by number, oldest first; given: the last given source, while it can be taken back
+ * class_title: the title of the class; machines: the machines by letter; share: the bytes of the script that a seat may use
+ * shoulder: the name of the observed seat, or ""; state, history, source: those of the observed seat
+ * caret: the number of the line in which the observed student typed last, or 0; problems: the problems of the last source that was built
+ * outcome: the work at the observed seat's open exercise
+ * wall: the name of the seat on the wall, or ""; address: the address of the class for students, or ""
+ * course: the exercises that may be turned on; exercises: the results by the exercise's name
+ * sent: the last messages by number, the oldest first; given: the last given source; missing if it can't be taken back
  * unencrypted: whether codes travel unencrypted to other computers
  */
 export interface TeacherView {
@@ -1219,7 +1237,7 @@ export interface UnsentResponse {
   read: string[];
 }
 
-/** The numbers of scalar and of vector registers, each in rising order; x0 isn't among them. */
+/** The registers that a user's lines and instructions use. x, v: the numbers of scalar and vector registers, in rising order, without x0 */
 export interface UsedRegisters {
   x: number[];
   v: number[];
@@ -1253,7 +1271,8 @@ export interface WallRequest {
 /**
  * The wall's view.
  *
- * seat: that it shows, or ""; stop: the seat's last stop line; trouble: a text for a banner, or ""
+ * seat: the name of the seat that the wall shows, or ""; stop: the seat's last stop line
+ * trouble: a text for a banner, or ""
  */
 export interface WallView {
   seat: string;
