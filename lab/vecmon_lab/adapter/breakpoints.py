@@ -31,7 +31,7 @@ class Breakpoint:
     """A breakpoint of the client's.
 
     number: its identifier; kind: FUNCTIONS, INSTRUCTIONS, or the path of a source
-    wanted: the client's request; addresses: of its instructions, in rising order
+    wanted: the client's request; addresses: the addresses of its instructions, in rising order
     file, line: its source line, with the file's name without the folder; "" and 0 if the line is unknown
     problem: a sentence that says why it isn't verified, or ""
     """

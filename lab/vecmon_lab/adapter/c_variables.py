@@ -126,7 +126,7 @@ class CVariable:
         return [self.element(index) for index in range(start, stop)]
 
     def element(self, index: int) -> "CVariable":
-        """Return the element of an array, or of the memory that a pointer points to, with an index. Raises LabError if there is none."""
+        """Return element `index` of an array, or of the memory that a pointer points to. Raises LabError if there is none."""
         if self.pointer is not None and self.at:
             return self._pointed(index, self.pointer, self.at)
         if isinstance(self.data, str):
@@ -144,7 +144,7 @@ class CVariable:
         )
 
     def field(self, name: str) -> "CVariable":
-        """Return the field with a name. Raises LabError if there is none."""
+        """Return the field called `name`. Raises LabError if there is none."""
         if isinstance(self.data, str):
             raise LabError(f"{self.name} is {self.data}")
         found = next((each for each in self.fields if each.name == name), None)
@@ -190,9 +190,9 @@ class CVariable:
         )
 
     def _pointed(self, index: int, pointer: int, at: "Callable[[CVariable, int, int], CVariable]") -> "CVariable":
-        """Return the value with an index in the memory that a pointer points to. Raises LabError if the type of the value is unknown.
+        """Return element `index` of the memory that a pointer points to. Raises LabError if the type of the element is unknown.
 
-        index: may be negative; pointer: the address; at: the attribute
+        index: may be negative; pointer: the address in the pointer; at: the attribute `at`
         """
         layout = self.layout.pointee if self.layout else None
         size = layout.size if layout else int(self.target[1:] or 0) // 8
@@ -234,12 +234,12 @@ def c_variables(instant: Instant, frame: Frame) -> tuple[list[CVariable], list[C
 
 
 def find_variable(instant: Instant, frame: Frame, name: str) -> CVariable | None:
-    """Return the variable with a name in a frame; None if there is none."""
+    """Return the variable called `name` in a frame; None if there is none."""
     return next((each for found in c_variables(instant, frame) for each in found if each.name == name), None)
 
 
 def number_at(instant: Instant, address: int, kind: str) -> CVariable:
-    """Return the number at an address of memory, as a variable. kind: of the number, such as `i32` (see `typed_text`)
+    """Return the number at an address of memory, as a variable. kind: the kind of the number, such as `i32` (see `typed_text`)
 
     If the memory can't be read, the methods of the variable that return the number raise LabError.
     """
@@ -327,7 +327,7 @@ def _mask(variable: CVariable) -> CVariable:
 def _bit_field(part: CVariable, data: bytes, first: int, count: int) -> CVariable:
     """Return a bit field, which has no address and can't be changed.
 
-    part: the field without its value; data: the bytes of the structure; first: the number of the field's first bit; count: of bits
+    part: the field without its value; data: the bytes of the structure; first: the number of the field's first bit; count: the number of bits
     """
     number = int.from_bytes(data, "little") >> first & (1 << count) - 1
     kind = f"{part.kind[:1]}{count}" if part.kind else ""

@@ -109,7 +109,7 @@ class FrameNames:
         return expressions.Value(address)
 
     def load(self, address: int, kind: str) -> expressions.Value:
-        """Return the number at an address of memory. kind: of the number, such as `i32`. Raises LabError if memory can't be read."""
+        """Return the number at an address of memory. kind: the kind of the number, such as `i32`. Raises LabError if memory can't be read."""
         found = number_at(self.instant, address, kind)
         return expressions.Value(found.value(), place=found.place)
 
@@ -151,7 +151,7 @@ def _item(instant: Instant, frame: Frame, name: str, path: expressions.Path, is_
 
 
 def _variable(instant: Instant, frame: Frame, name: str, path: expressions.Path) -> CVariable | None:
-    """Return the variable with a name, or the part of it to which a path leads; None if there is no such variable.
+    """Return the variable called `name`, or the part of it to which a path leads; None if there is no such variable.
 
     Raises LabError if the variable has no such part.
     """

@@ -77,7 +77,7 @@ class Names(Protocol):
         """Return the value of a name, or of the element or field to which a path leads from it. Raises LabError."""
 
     def load(self, address: int, kind: str) -> Value:
-        """Return the number at an address of memory. kind: of the number, such as `i32`. Raises LabError if memory can't be read."""
+        """Return the number at an address of memory. kind: the kind of the number, such as `i32`. Raises LabError if memory can't be read."""
 
 
 @dataclass(frozen=True)
@@ -107,7 +107,7 @@ class _Field:
 
 @dataclass(frozen=True)
 class _Cast:
-    """A cast to a pointer to numbers, such as `(int32_t *)a0`. kind: of the numbers"""
+    """A cast to a pointer to numbers, such as `(int32_t *)a0`. kind: the kind of these numbers, such as `i32`"""
 
     kind: str
     operand: "_Node"
@@ -325,7 +325,7 @@ def _value_of_path(node: _Node, names: Names) -> Value:
 
 
 def _load(pointer: Value, index: int, names: Names) -> Value:
-    """Return the number with an index in the memory that a pointer points to. Raises LabError."""
+    """Return number `index` of the memory that a pointer points to. Raises LabError."""
     if not pointer.target:
         raise LabError("only a pointer has * before it or an index after it, such as *(int32_t *)a0")
     return names.load((pointer.number + index * _size(pointer)) & _WORD, pointer.target)

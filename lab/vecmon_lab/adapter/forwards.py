@@ -175,7 +175,7 @@ class Forwards:
         return None
 
     def _leave_copy(self, number: int) -> Halt | None:
-        """Execute instructions up to one outside an inlined copy. number: the copy's"""
+        """Execute instructions up to one outside an inlined copy. number: the number of the copy"""
         while True:
             if halt := self.step_call(True):
                 return halt

@@ -35,7 +35,7 @@ class Client(Protocol):
 class Halt:
     """The end of a movement.
 
-    reason: in the protocol's words, such as `step` or `breakpoint`
+    reason: the reason in the protocol's words, such as `step` or `breakpoint`
     stop: the stop if the program stopped by itself, otherwise None; text: a sentence about the halt, or ""
     numbers: the identifiers of the breakpoints that were met
     """
@@ -49,7 +49,7 @@ class Halt:
 class Halts:
     """Decides where a moving program halts.
 
-    program, breakpoints, client: of the session; guest, timeline: of the program
+    program, breakpoints, client: the session's program, breakpoints and client; guest, timeline: the program's guest and timeline
     """
 
     def __init__(

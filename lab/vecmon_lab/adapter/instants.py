@@ -24,7 +24,7 @@ ILLEGAL = 2  # the cause of a fault at an illegal instruction
 class Frame:
     """A frame of the client's call stack: a function, or an inlined copy of a function.
 
-    call: the function, or the function that contains the copy; name: of the function or the copy, or "" if it is unknown
+    call: the function, or the function that contains the copy; name: the name of the function or the copy, or "" if it is unknown
     line: the source line at which the function or the copy is; None if it is unknown
     """
 

@@ -35,7 +35,7 @@ def last_items(instant: Instant) -> list[tuple[str, str, VectorGroup | None]]:
 def why(instant: Instant, name: str, element: int | None) -> str:
     """Return the reason why a register or an element has its value after the last instruction.
 
-    name: the register's; element: the index of an element; None for a scalar register
+    name: the name of the register; element: the index of an element; None for a scalar register
 
     Raises LabError if no instruction was executed, if it has no explanation, or if the register or element doesn't exist.
     """

@@ -79,7 +79,7 @@ class Program:
             note(self.symbols.warning)
 
     def close(self) -> None:
-        """End the machine."""
+        """End the program's machine."""
         self._stack.close()
 
     @property
@@ -128,7 +128,7 @@ class Program:
         self._shown[path.name] = path
 
     def path_of(self, file: str) -> pathlib.Path | None:
-        """Return the path of the source file with a name; if it isn't found, the path by which the client names it, or None.
+        """Return the path of the source file called `file`. If it isn't found, return the path by which the client names it, or None.
 
         Symbolic links are resolved, except in the path of the launched source, which the client has named itself.
         """

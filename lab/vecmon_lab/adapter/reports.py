@@ -29,7 +29,7 @@ class Reports:
             self.event("output", category=category, output=text)
 
     def write(self, data: bytes) -> None:
-        """Show the program's output. data: in UTF-8; a character may be split between two calls"""
+        """Show the program's output. data: bytes in UTF-8, which may end inside a character"""
         self.output(self._decoder.decode(data), "stdout")
 
     def unsupported(self, place: str, sentence: str) -> None:

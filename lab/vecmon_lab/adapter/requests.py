@@ -62,7 +62,7 @@ class Source:
 
 @dataclass(frozen=True)
 class SourceBreakpoint:
-    """A breakpoint at a line of a source. line: as the client counts"""
+    """A breakpoint at a line of a source. line: the number of the line, as the client counts"""
 
     line: int
     condition: str = ""
@@ -124,7 +124,7 @@ class SetInstructionBreakpoints:
 class DataBreakpointInfo:
     """The data that the client wants to watch, for a request of its address.
 
-    name: of a row, or an expression, or an address if `as_address` is true; variables_reference: the reference above the row, or 0
+    name: the name of a row, or an expression, or an address if `as_address` is true; variables_reference: the reference above the row, or 0
     frame_id: the frame of the expression, or 0; bytes: the number of bytes; None for the data's own size
     """
 
@@ -185,7 +185,7 @@ class ValueFormat:
 class Variables:
     """A request of the rows below a scope or a variable, or of a range of them.
 
-    variables_reference: of the scope or the variable; start: the index of the first row; count: the number of rows, 0 for all
+    variables_reference: the reference of the scope or the variable; start: the index of the first row; count: the number of rows, 0 for all
     """
 
     variables_reference: int
@@ -196,7 +196,10 @@ class Variables:
 
 @dataclass(frozen=True)
 class SetVariable:
-    """A new value of a variable. variables_reference: of the scope or the variable above it; value: as the user typed it"""
+    """A new value of a variable.
+
+    variables_reference: the reference of the scope or the variable above it; name: the variable's name; value: the value, as the user typed it
+    """
 
     variables_reference: int
     name: str
@@ -216,7 +219,7 @@ class Evaluate:
 
 @dataclass(frozen=True)
 class SetExpression:
-    """A new value of an expression. value: as the user typed it"""
+    """A new value of an expression. value: the value, as the user typed it"""
 
     expression: str
     value: str
@@ -226,7 +229,7 @@ class SetExpression:
 
 @dataclass(frozen=True)
 class Completions:
-    """A text in the debug console that ends with the start of a name. column: of the caret, as the client counts"""
+    """A text in the debug console that ends with the start of a name. column: the caret's column, as the client counts"""
 
     text: str
     column: int
@@ -295,7 +298,7 @@ def _name_in_json(name: str) -> str:
 def _read(kind: Any, given: object, name: str) -> object:
     """Return an argument's value. Raises BadArguments if it doesn't have the type `kind`.
 
-    given: the value in JSON; name: of the argument, for messages
+    given: the value in JSON; name: the argument's name, for messages
     """
     options: Sequence[Any] = get_args(kind)
     if get_origin(kind) is UnionType:

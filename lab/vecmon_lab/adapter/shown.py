@@ -45,7 +45,7 @@ class Shown:
         return Shown(instant, self._references)
 
     def scopes(self, frame: int) -> list[dict[str, Any]]:
-        """Return the scopes of the frame with a number. Raises LabError if there is no such frame."""
+        """Return the scopes of a frame. frame: the frame's number. Raises LabError if there is no such frame."""
         return [self._scope(frame, each) for each in scopes_of(self.instant, self._frame(frame))]
 
     def variables(self, wanted: Variables) -> list[dict[str, Any]]:
@@ -69,7 +69,7 @@ class Shown:
     def value_again(self, number: int, name: str, form: ValueFormat) -> dict[str, Any]:
         """Return the value of a row, in the protocol's form, after a change. Raises LabError if there is no such row.
 
-        number: of the reference above the row; name: the row's; form: how numbers are written
+        number: the number of the reference above the row; name: the row's name; form: how numbers are written
         """
         reference = self._reference(number)
         shown = self._variable(self._row(reference, name, form.hex), reference)
@@ -118,7 +118,7 @@ class Shown:
     def place_of(self, number: int, name: str) -> tuple[int, int] | None:
         """Return the address and the number of bytes of a row; None if the row isn't in memory. Raises LabError if there is no such row.
 
-        number: of the reference above the row; name: the row's
+        number: the number of the reference above the row; name: the row's name
         """
         return self._row(self._reference(number), name, False).place
 
@@ -130,7 +130,7 @@ class Shown:
             return None
 
     def _frame(self, number: int) -> Frame:
-        """Return the frame with a number: 1 is the innermost frame, and so is 0, for a request without a frame. Raises LabError."""
+        """Return the frame of a request by its number. The innermost frame has number 1; 0 is a request without a frame. Raises LabError."""
         frames = self.instant.frames
         if not 0 <= number <= len(frames):
             raise LabError(f"there is no frame {number}")
@@ -155,7 +155,7 @@ class Shown:
         return {"name": scope.name, "variablesReference": number, "expensive": scope.is_costly, **hint}
 
     def _variable(self, item: Item, parent: _Reference, is_root: bool = False) -> dict[str, Any]:
-        """Return a row in the protocol's form. If there are rows below it, it has the number of a reference.
+        """Return a row in the protocol's form. A row that has rows below it also has the number of a reference.
 
         parent: the reference above the row; is_root: whether the row is the expression of `parent` itself
         """
@@ -184,11 +184,11 @@ class Shown:
         return rows(start, count, is_hex) if rows else []
 
     def _row(self, reference: _Reference, name: str, is_hex: bool) -> Item:
-        """Return the row with a name below a reference. Raises LabError if there is none."""
+        """Return the row called `name` below a reference. Raises LabError if there is none."""
         return self._named(lambda start, count, is_hex: self._rows(reference, start, count, is_hex), name, is_hex)
 
     def _named(self, rows: Any, name: str, is_hex: bool) -> Item:
-        """Return the row with a name, such as `x` or `[3]`. Raises LabError if there is none.
+        """Return the row called `name`, such as `x` or `[3]`. Raises LabError if there is none.
 
         rows: returns rows, as `Item.children` does
         """

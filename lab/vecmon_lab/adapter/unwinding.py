@@ -27,7 +27,7 @@ Peek = Callable[[int], int | None]
 class CallFrame:
     """A function that is executing, or that waits for the return of a function that it has called.
 
-    address: of the function's next instruction; in a waiting function, the return address of the call
+    address: the address of the function's next instruction; in a waiting function, the return address of the call
     registers: the values of x0 to x31 in the function
     stack: the stack pointer after the function has returned (the canonical frame address); None if it is unknown
     is_innermost: whether the function is executing
@@ -75,7 +75,7 @@ class CallFrames:
     def _caller(self, row: "_Row", registers: Registers, stack: int, peek: Peek) -> list[int | None] | None:
         """Return the registers of the caller. The value of ra is the address to which the function returns.
 
-        row: the rules at the function's present address; registers: of the function; stack: the canonical frame address
+        row: the rules at the function's present address; registers: the function's registers; stack: the canonical frame address
         """
         before: list[int | None] = [registers[number] if number in _SAVED else None for number in range(32)]
         before[0], before[SP], before[RA] = 0, stack, registers[RA]
@@ -183,7 +183,7 @@ def _stack_of(row: _Row, registers: Registers) -> int | None:
 def _restored(rule: Any, registers: Registers, stack: int, now: int | None, peek: Peek) -> int | None:
     """Return the caller's value of a register; None if it is unknown.
 
-    rule: how to restore it; registers: of the function; stack: the canonical frame address; now: the register's value in the function
+    rule: how to restore it; registers: the function's registers; stack: the canonical frame address; now: the register's value in the function
     """
     match rule.type, rule.arg:
         case "OFFSET", int(offset):

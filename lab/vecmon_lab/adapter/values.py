@@ -27,7 +27,7 @@ def digits(value: int, bits: int) -> str:
 def number_text(value: int, bits: int, is_hex: bool) -> str:
     """Return the text of an element or a register: the signed number, then the hexadecimal digits in parentheses. A mask bit is 0 or 1.
 
-    value: unsigned; bits: its width; is_hex: whether only the hexadecimal digits are written
+    value: the unsigned value; bits: the number of its bits; is_hex: whether only the hexadecimal digits are written
     """
     if bits == 1:
         return f"{value}"
@@ -38,7 +38,7 @@ def typed_text(kind: str, value: int, is_hex: bool) -> str:
     """Return the text of a number of a C type, such as `5` or `97 'a'`.
 
     kind: `i` (signed), `u` (unsigned), `c` (char) or `x` (pointer), followed by the number of bits, such as `i32`
-    value: unsigned; is_hex: whether numbers are written in hexadecimal, as pointers always are
+    value: the unsigned value; is_hex: whether numbers are written in hexadecimal, as pointers always are
     """
     bits = int(kind[1:])
     if kind[0] == "x" or is_hex:

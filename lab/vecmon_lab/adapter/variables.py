@@ -29,7 +29,7 @@ class Item:
     children: returns the rows below it; None if there are none. Its arguments are the index of the first row, the number of rows (0 for all),
         and whether numbers are written only in hexadecimal.
     count: the number of rows below it if their names are indices; otherwise 0
-    address: of the memory that the client shows for the row: its own bytes, or those that a pointer points to; None if there are none
+    address: the address of the memory that the client shows for the row: its own bytes, or those that a pointer points to; None without any
     change: sets the value to the number in a text; None if the value can't be changed
     place: its address and number of bytes; None if it isn't in memory
     """
@@ -119,7 +119,7 @@ def _mapped(guest: Guest, values: Sequence[int]) -> set[int]:
 
 
 def set_scalar(guest: Guest, number: int, text: str) -> None:
-    """Set the scalar register with a number to the number in a text. Raises LabError."""
+    """Set scalar register x`number` to the number in a text. Raises LabError."""
     send(guest, f"set x{number} {read_number(text, 64):x}")
 
 

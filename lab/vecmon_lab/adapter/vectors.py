@@ -23,11 +23,11 @@ _SHOWN = 16  # elements in the text of a group
 class VectorGroup:
     """Vector registers whose elements are numbered as one group.
 
-    name: the registers, such as `v8` or `v8-v11`, for an operand after its role; expression: the name of the first register
+    name: the registers, such as `v8` or `v8-v11`; an operand's role precedes them; expression: the name of the first register
     type: the type of the elements, as a text for the user
-    width: of an element, in bits; values: of the elements, unsigned
-    outcomes: the text of an element's outcome in the last instruction, or that the element is in the tail, by the element's index
-    change: sets the element of an index to the number in a text; None if the elements can't be changed
+    width: the width of an element, in bits; values: the unsigned values of the elements
+    outcomes: by the element's index, the text of its outcome in the last instruction, or that it is in the tail
+    change: sets an element; its arguments are the element's index and the number as text; None if the elements can't be changed
     is_result: whether the group is the destination of the last instruction
     """
 
@@ -107,7 +107,7 @@ def _group_size(control: ControlRegisters) -> int:
 def _set_element(guest: Guest, register: int, width: int, index: int, text: str) -> None:
     """Set an element of a group to the number in a text. Raises LabError.
 
-    register: the group's first register; width: of an element, in bits; index: the element's
+    register: the group's first register; width: the width of an element, in bits; index: the index of the element
     """
     size = width // 8
     number, at = register + index * size // REGISTER_BYTES, index * size % REGISTER_BYTES

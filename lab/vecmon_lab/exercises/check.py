@@ -101,7 +101,7 @@ class CheckResult(TypedDict):
 def check_or_failure(
     program: Vecmon, exercise: Exercise, text: str, compiled: CompiledProgram | None, good: AnswerCost | None
 ) -> CheckResult:
-    """Return the result of `check`, which is tried twice if a tool fails. After a second failure, return a result without cases."""
+    """Return the result of `check`. If a tool fails, try once more; after a second failure, return a result without cases."""
     with contextlib.suppress(ToolError):
         return check(program, exercise, text, compiled, good)
     try:
@@ -118,7 +118,7 @@ def failed_check(cause: str) -> CheckResult:
 def check(
     program: Vecmon, exercise: Exercise, text: str, compiled: CompiledProgram | None, good: AnswerCost | None
 ) -> CheckResult:
-    """Return the result of a source, in an exercise with expected results. Raises ToolError.
+    """Check a source as an answer to an exercise that has its expected results. Return the result. Raises ToolError.
 
     compiled: the compiled form of a C source; good: the cost of the exercise's good answer, if known
     """

@@ -206,7 +206,8 @@ def _cases(path: pathlib.Path, entries: Sequence[object], by_reference: bool) ->
 def _case(where: str, entries: object, by_reference: bool) -> Case:
     """Return a case. Raises LabError.
 
-    by_reference: whether the expected results are only named: registers in a list, the length of memory, and output = true
+    by_reference: whether a reference gives the expected results. Then the case only names them: a list of registers, the lengths of memory,
+        and output = true.
     """
     inputs = {"hidden": False, "policy": "keep", "registers": {}, "memory": []}
     table = _taken(where, entries, {"name": where.split(": ")[-1], "expected": {}, **inputs})

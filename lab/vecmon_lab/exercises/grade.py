@@ -150,7 +150,7 @@ def graded(
 def graded_or_failure(
     program: pathlib.Path, exercise: Exercise, isolation: Isolation, path: pathlib.Path, is_counted: bool
 ) -> Graded | ToolError:
-    """Return the result of `graded`, which is tried twice if a tool fails; after a second failure, the failure."""
+    """Return the result of `graded`. If a tool fails, try once more; after a second failure, return the error."""
     with contextlib.suppress(ToolError):
         return graded(program, exercise, isolation, path, is_counted=is_counted)
     try:

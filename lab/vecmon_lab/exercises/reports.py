@@ -14,7 +14,7 @@ _NO_XML = re.compile("[^\t\n\r -\ud7ff\ue000-\ufffd\U00010000-\U0010ffff]")  # a
 
 
 def reason_shown(case: Case, reason: str) -> str:
-    """Return the reason why an answer fails in a case, for its author: for a hidden case, only that it fails."""
+    """Return the reason why an answer fails in a case, as its author may see it: for a hidden case, only that the case fails."""
     return "fails" if case.is_hidden and reason else reason
 
 

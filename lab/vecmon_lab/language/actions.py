@@ -24,7 +24,7 @@ class CodeAction(TypedDict):
 
 
 def code_actions(uri: str, found: Iterable[Finding], span: Range) -> list[CodeAction]:
-    """Return the fixes of all diagnostics that overlap or touch a range. uri: of the document; found: the document's diagnostics"""
+    """Return the fixes of all diagnostics that overlap or touch a range. uri: the document's URI; found: the document's diagnostics"""
     actions = list[CodeAction]()
     for finding in found:
         if _touch(finding.diagnostic["range"], span):

@@ -37,8 +37,8 @@ class Illegal:
 class Analysis:
     """A source and the results of its analysis.
 
-    lines: of the source; plain: the same lines without comments
-    words: of the instructions, by address, without the instructions that have mistakes
+    lines: the lines of the source; plain: the same lines without comments
+    words: the words of the instructions, by address, without the instructions that have mistakes
     program: the source's program, with all its mistakes; flow: the vector states before its instructions
     by_line: the statements of the program, by the number of their line
     """
@@ -46,7 +46,7 @@ class Analysis:
     def __init__(
         self, text: str, trial: Trial, files: FileReader | None = None, most_made: int = MAX_CHARACTERS
     ) -> None:
-        """most_made: the most characters that macros and repetitions may make; if they make more, this raises TooMuchMade"""
+        """most_made: the most characters that macros and repetitions may make. Raises TooMuchMade if they make more."""
         self.lines = text.split("\n")
         self.plain = without_comments(text)[0].split("\n")
         read = with_inputs(read_source(text, files=files, most_made=most_made), text)
@@ -75,7 +75,7 @@ class Analysis:
         return self.flow.states.get(statement.address)
 
     def state_before_line(self, number: int) -> VectorState:
-        """Return the vector state at the start of a line: the state after the last instruction above. number: of the line, from 1
+        """Return the vector state at the start of a line: the state after the last instruction above. number: the line's number, from 1
 
         The line's own instructions aren't used, since the line may be half-typed.
         """

@@ -95,7 +95,7 @@ def _first_words(analysis: Analysis) -> Iterator[tuple[str, int, str]]:
 def _operands(analysis: Analysis, tokens: Sequence[Token], number: int) -> Iterator[tuple[str, int, str]]:
     """Yield the texts that fit as the operand at the caret, each with its kind and a detail.
 
-    tokens: of the statement before the word at the caret; the first one is the name of the instruction; number: of the line, from 1
+    tokens: the tokens of the statement before the word at the caret, first the name of the instruction; number: the line's number, from 1
     """
     name = tokens[0].text.lower()
     place = sum(token.text == "," for token in tokens)
@@ -117,7 +117,7 @@ def _operands(analysis: Analysis, tokens: Sequence[Token], number: int) -> Itera
 def _fitting(analysis: Analysis, name: str, field: str, number: int, is_inside: bool) -> Iterator[tuple[str, int, str]]:
     """Yield the texts that fit as an operand, each with its kind and a detail.
 
-    name: of the instruction; field: of the operand in the table of instructions; number: of the line, from 1
+    name: the name of the instruction; field: the operand in the table of instructions; number: the line's number, from 1
     is_inside: whether the caret is after `(`
     """
     if is_inside:
@@ -168,7 +168,7 @@ def _place(place: str, row: Row) -> str:
 
 
 def _word(row: Row, field: str, register: int) -> int:
-    """Return the word of an instruction without a mask. register: the number in the vector field `field`; other fields are 0"""
+    """Return the word of an instruction without a mask. field: the field of a vector operand; register: its value; all other fields are 0"""
     low = {"vd": 7, "vs3": 7, "vs1": 15, "vs2": 20}.get(field, 7)
     return row.word(register << low | 1 << 25)
 

@@ -21,7 +21,7 @@ UNCHECKED = "this source isn't checked"
 class Document:
     """An open document.
 
-    uri: its URI; lines: of the present text; version: the editor's number of the present text
+    uri: its URI; lines: the lines of its present text; version: the editor's number of the present text
     """
 
     def __init__(self, uri: str, text: str, version: int, trial: Trial) -> None:
@@ -95,6 +95,6 @@ class Document:
 
 
 def path_of(uri: str) -> pathlib.Path | None:
-    """Return the path of the document with a URI; None if it isn't a file of this computer."""
+    """Return the path of a document. uri: the document's URI. None if it isn't a file of this computer"""
     parts = urlsplit(uri)
     return pathlib.Path(unquote(parts.path)) if parts.scheme == "file" and parts.netloc in ("", "localhost") else None

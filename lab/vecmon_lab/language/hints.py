@@ -52,7 +52,7 @@ def _labels(analysis: Analysis) -> dict[int, int]:
 def _at_label(analysis: Analysis, address: int) -> str:
     """Return the text about the vector type at a label; "" if it is unknown, or the same as after the instruction above the label.
 
-    address: of the label. Its type differs if a jump to it comes from a place with another type.
+    address: the address of the label. The two types differ if a jump to the label comes from a place with another type.
     """
     state = analysis.flow.states.get(address)
     if state is None or state.types is None or state.types == {VILL}:
@@ -85,7 +85,7 @@ def _is_refused(analysis: Analysis, statement: Statement) -> bool:
 def set_text(state: VectorState) -> str:
     """Return the text about vl and VLMAX, such as `vl 4, VLMAX 8`; "" if the vector type is unknown.
 
-    state: after an instruction that sets the vector type
+    state: the vector state after an instruction that sets the vector type
     """
     if state.vtype is None:
         return ""

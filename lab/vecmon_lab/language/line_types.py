@@ -25,7 +25,7 @@ def read_typed_source(
 ) -> Program:
     """Return the program of a source with all its mistakes, as `read_tried_source` does, and with the vector types at its lines.
 
-    most_made: the most characters that macros and repetitions may make; if they make more, this raises TooMuchMade
+    most_made: the most characters that macros and repetitions may make. Raises TooMuchMade if they make more.
     """
     with Trial(vecmon) as trial:
         read = with_inputs(read_source(text, files=files, most_made=most_made), text)
@@ -38,7 +38,7 @@ def read_typed_source(
 def line_types(program: Program, words: Mapping[int, int], text: str) -> list[LineType]:
     """Return the vector types that are shown at the lines of a source, by rising line.
 
-    words: of the program's instructions, by address; text: the source
+    words: the words of the program's instructions, by address; text: the source
 
     An instruction that sets a type shows the type at its line; for an instruction of a macro, that is the line of the macro's call. If a type
     comes into force in another way, such as by a jump, it is shown only if a vector instruction uses it, at the line where it comes into force.

@@ -24,7 +24,7 @@ class Occurrence:
     """A name at a place in a source.
 
     name: the name; for a numeric label, its number and the number of its definition, with a line feed between them
-    line, column: counted from 1; length: in characters
+    line, column: the place, counted from 1; length: the number of characters
     defines: the kind of the name, if it is defined here; None if it is used here
     """
 
@@ -36,7 +36,10 @@ class Occurrence:
 
 
 def occurrences(lines: Sequence[str], plain: Sequence[str]) -> list[Occurrence]:
-    """Return the places of all names that a source defines, in the source's order. lines: of the source; plain: the same without comments"""
+    """Return the places of all names that a source defines, in the source's order.
+
+    lines: the lines of the source; plain: the same lines without comments
+    """
     found, numeric = list[Occurrence](), Counter[int]()
     for number, (line, text) in enumerate(zip(lines, plain), 1):
         for statement in split_line(Line(text, number)):

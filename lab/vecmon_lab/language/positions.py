@@ -69,7 +69,7 @@ def position(lines: Sequence[str], line: int, column: int) -> Position:
 
 
 def range_of(lines: Sequence[str], line: int, column: int, length: int) -> Range:
-    """Return the range of a token. line, column: its start, counted from 1; length: in characters
+    """Return the range of a token. line, column: its start, counted from 1; length: the number of its characters
 
     The range has at least one character, so that an editor can mark it. For a token of length 0 at the end of a line, that is the last character
     of the line that isn't a blank.

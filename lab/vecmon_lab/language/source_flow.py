@@ -24,7 +24,7 @@ _WORD_BYTES = 4
 def flow_of_source(program: Program, words: Mapping[int, int], plain: Sequence[str]) -> Flow:
     """Return the vector states of a source.
 
-    words: of its instructions, by address, without those that the machine refuses
+    words: the words of its instructions, by address, without those that the machine refuses
     plain: its lines without comments
     """
     return Flow(_code(program, words, plain))
@@ -77,7 +77,7 @@ def _is_harmless(mistake: SourceError, plain: Sequence[str]) -> bool:
 
 
 def names_of(plain: str, number: int) -> Iterator[Token]:
-    """Yield the names of the instructions and directives in a line. plain: the line without comments; number: the line's, from 1"""
+    """Yield the names of the instructions and directives in a line. plain: the line without comments; number: the line's number, from 1"""
     for statement in split_line(Line(plain, number)):
         try:
             tokens = tokens_of(statement)
@@ -135,7 +135,7 @@ def _data_words(program: Program) -> Iterator[tuple[int, int]]:
 
 
 def _missing(addresses: Sequence[int]) -> Iterator[int]:
-    """Yield the addresses, in short gaps between these, at which instructions may be missing. addresses: of words, in rising order"""
+    """Yield the addresses in short gaps between words, at which instructions may be missing. addresses: the words' addresses, in rising order"""
     for before, after in zip(addresses, addresses[1:]):
         if after - before <= _ROOM * _WORD_BYTES:
             yield from range(before + _WORD_BYTES, after, _WORD_BYTES)

@@ -74,7 +74,7 @@ def _changes(data: str, before: str) -> int:
 
 
 def _strip(state: State, number: int) -> Strip:
-    """Return the picture of the first elements of a vector register. number: the register's
+    """Return the picture of the first elements of a vector register. number: the number of the register
 
     The elements have the width with which the instruction uses them. If no instruction uses the register, the vector type gives their
     width. The elements of a mask are bits.

@@ -25,7 +25,7 @@ def differences(
 
     after: the machine's registers after the instruction
     shift: the distance from the machine's stack to the log's, in bytes
-    peek: returns the machine's bytes after the instruction, by address and number
+    peek: returns the machine's memory after the instruction, given an address and a number of bytes
     """
     if step.commit.word not in (None, step.retired.word):
         yield f"word: {step.retired.word:08x} here, {step.commit.word:08x} in the log", set()

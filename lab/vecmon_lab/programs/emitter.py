@@ -89,13 +89,13 @@ class Emitter:
                 self.registers.kept = set(self.counters)
 
     def base(self) -> int:
-        """Return a scalar register with an address near the middle of memory. It is a multiple of 8, unless there are choices."""
+        """Return a scalar register with an address near the middle of memory. It is a multiple of 8 unless the program has choices."""
         if self.draws.random() < 0.5:
             return BASE
         return self.prepared("addi", self.aligned(self.draws.randrange(-1024, 1024), 8) << 20, rs1=BASE)
 
     def aligned(self, number: int, width: int) -> int:
-        """Return a 12-bit number, rounded down to a multiple of a width, unless there are choices."""
+        """Return a 12-bit number, rounded down to a multiple of `width` unless the program has choices."""
         return (number if self.has_choices else number & -width) & 0xFFF
 
     def constant(self, value: int) -> int:

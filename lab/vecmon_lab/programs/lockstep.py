@@ -93,7 +93,7 @@ class _Lockstep:
         return self._agree(step) if step.retired.stop else None
 
     def _step(self, commit: Commit) -> LoggedStep:
-        """Execute an instruction on the machine, and return it as the step for an instruction of the log. commit: the log's"""
+        """Execute an instruction on the machine; return it as a step of the log. commit: the log's instruction"""
         before = self._stepper.registers.copy()
         self.number += 1
         if self.number == 1 and commit.stack is not None:

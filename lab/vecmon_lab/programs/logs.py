@@ -134,7 +134,7 @@ class Log:
                 state.control[name] = int(digits, 16)
 
     def _is_whole(self) -> bool:
-        """Return whether the last state of QEMU's has all registers, including vector registers if the first state has them."""
+        """Return whether the last state in QEMU's form has all registers. Vector registers are needed only if the first state has them."""
         first, last = self._states[0], self._states[-1]
         return len(last.x) == 32 and len(last.v) in (0, 32) and len(last.v) == len(first.v)
 

@@ -141,7 +141,7 @@ class VectorDraws:
         return self._execute(row, numbers)
 
     def _make_index(self, index: Operand, number: int, source: int) -> None:
-        """Write offsets to a group: numbers below 512, which are multiples of 8 unless there are choices.
+        """Write offsets to a group: numbers below 512, which are multiples of 8 unless the program has choices.
 
         index: the operand for the offsets; number: its first register; source: a register whose elements they are computed from
         """

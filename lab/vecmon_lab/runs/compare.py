@@ -114,7 +114,7 @@ def _segments_in_stack(image: pathlib.Path) -> Iterator[tuple[int, str, bytes]]:
 
 
 def _find_dependence(runs: dict[str, InitialState], symbols: Symbols, ticks: int) -> tuple[Stop | None, bool]:
-    """Print which runs differ from the first one, with the reasons; for the filled runs, print one reason.
+    """Print whether each filled run differs from the first run, and the reasons why runs differ. Only one of the filled runs is explained.
 
     Return the stop of the first run, or None, and whether another run differs.
     """

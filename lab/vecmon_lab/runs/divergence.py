@@ -140,7 +140,8 @@ def _followed(
 ) -> tuple[tuple[CommonStep, str] | None, set[Cell]]:
     """Search backwards for the instruction that leaves the differing places agnostic.
 
-    Return it with the kind of elements, or None, and the places that differ before the steps, where the search must go on.
+    Return this instruction with the kind of its agnostic elements, or None if it isn't found. Also return the places that differ before the
+    steps, with which the search goes on.
     """
     for step in reversed(steps):
         matching = [part for part in parts(step.runs[0]) if not places.isdisjoint(part[0])]

@@ -31,9 +31,9 @@ class Codes:
         return next((name for name, match in zip(self.codes, matches) if match), None)
 
     def shown(self, name: str) -> dict[str, str]:
-        """Return codes that a teacher hands out, by name. The teacher's own code isn't among them.
+        """Return codes that a teacher hands out, by their owner's name. The teacher's own code isn't among them.
 
-        name: a seat or `wall`, for its code only; "" for all codes. The result is empty for an unknown name.
+        name: a seat or `wall`, to return only its code; "" to return all codes. The result is empty for an unknown name.
         """
         return {each: code for each, code in self.codes.items() if each != TEACHER and name in ("", each)}
 

@@ -22,7 +22,7 @@ class Display:
     rows: VisibleRows = field(default_factory=VisibleRows)
 
     def add_rows(self, state: State) -> State:
-        """Update the choice of visible rows by a new state; return the state with all visible rows of memory."""
+        """Choose the visible rows of memory for a new state. Return the state with all rows that are visible."""
         self.rows.add(state)
         return self.with_rows(state)
 

@@ -58,10 +58,12 @@ def breakpoint_lines(
     """Return the lines that set all breakpoints of a line of the source, or that remove its breakpoints if any of them is set.
 
     A line without instructions has the breakpoints of the next line that has an instruction.
+
     stops: the addresses of the breakpoints of each line of the source, by the line's number
     breaks: the addresses of all breakpoints that are set in the machine; line: the number of the line
-    is_only_set: whether breakpoints that are set stay, and the missing ones are set
-    Raises BadRequest if neither the line nor a later one has an instruction, and if not all of its breakpoints can be set.
+    is_only_set: whether to set the missing breakpoints, and to remove none
+
+    Raises BadRequest if neither the line nor a later one has an instruction, or if not all of the line's breakpoints can be set.
     """
     place = _place(sorted(map(int, stops)), line)
     there = [address for address in stops.get(f"{place}", []) if address in breaks]

@@ -168,7 +168,7 @@ class SharedMachine:
             self._look(turn)
 
     def report(self, turn: Turn) -> None:
-        """Pass a turn's lines and states to the seats. Of its lines, logs show only those of the seat that asked for the turn."""
+        """Pass the lines and states of a turn to the seats. The lines of the seat that asked for the turn are added to its log."""
         for line, answer in turn.done:
             self.seats.observe(line, answer, turn.asker is not None and line[0] == turn.asker.digit)
         self.seats.take(turn.states, [*turn.before, *turn.done])

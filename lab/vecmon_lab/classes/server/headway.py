@@ -1,4 +1,4 @@
-"""The headway of a student at an exercise: a new line, a new place where the program stops, or more cases that pass.
+"""The progress of a student at an exercise: a new line, a new place where the program stops, or more cases that pass.
 
 A teacher can't know otherwise that a student who never presses *Check* is stuck.
 """
@@ -11,9 +11,9 @@ MAX_KNOWN = 20_000  # lines and stops; a student who has had more is at work
 
 
 class Headway:
-    """The headway of a student at the open exercise.
+    """The progress of a student at the open exercise.
 
-    since: when the student last had something new at this exercise, in seconds since 1970
+    since: the time of the last progress at this exercise, in seconds since 1970
     """
 
     def __init__(self, clock: Callable[[], float] = time.time) -> None:
@@ -43,14 +43,14 @@ class Headway:
             self._known |= found
 
     def restart(self) -> None:
-        """Forget the headway, since another exercise is open, or the student wasn't there."""
+        """Forget the progress, since another exercise is open, or since the student has been away."""
         self.since = self._clock()
         self._known.clear()
 
     def stuck_since(self) -> float | None:
         """Return since when the student is stuck, in seconds since 1970; None if the student isn't stuck.
 
-        A student is stuck NO_HEADWAY_SECONDS after the last headway.
+        A student is stuck NO_HEADWAY_SECONDS after the last progress.
         """
         over = self.since + NO_HEADWAY_SECONDS
         return over if over <= self._clock() else None

@@ -8,7 +8,7 @@ import segno
 def pictures(address: str, codes: Mapping[str, str]) -> dict[str, str]:
     """Return the QR codes of a class as data URIs of SVG images, by name.
 
-    address: of the class's page; codes: the code of each name, such as a seat's
+    address: the address of the class's page; codes: the code of each name, such as a seat's code
 
     The QR code of a name has the address followed by `#` and the name's code. The name "" has the QR code of the address without a code.
     """

@@ -55,7 +55,7 @@ def solo(store: Store, seat: str) -> list[str]:
 
 
 def own_lines(session: Session, lines: Sequence[str], digit: str) -> list[str]:
-    """Execute lines; return the parts of their answers that are for one user. digit: the user's"""
+    """Execute lines; return the parts of their answers that are for one user. digit: the digit of this user"""
     script = "".join(f"{line}\n" for line in lines).encode("ascii")
     return [part for _, answer in session.do_script(script) for part in answer if part[0] == digit]
 
@@ -75,8 +75,8 @@ class OwnScript:
         """Execute a script on two machines that are in the state in which the script starts.
 
         whole: executes all lines
-        single: executes only what is needed to find a stop: if a program stops in one of a line's slices, it executes the lines before
-            this line, and then the slices one at a time
+        single: executes only lines that are needed to find the slice in which a program stops. If a program stops in a line with several slices,
+            it executes the lines before this line, and then the slices one at a time.
         """
         waiting = bytearray()
         for line, answer in whole.do_script(script):

@@ -11,7 +11,7 @@ from .stored_files import codes
 
 
 def forget(folder: pathlib.Path, name: str) -> None:
-    """Delete a file of the class, and all copies of it. name: the file's. Raises BadFolder if there is no class, or it is being served."""
+    """Delete a file of the class, and all copies of it. name: the file's name. Raises BadFolder if there is no class, or it is being served."""
     _check_has_class(folder)
     with FolderLock(folder):
         recover(folder)
