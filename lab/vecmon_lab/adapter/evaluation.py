@@ -28,13 +28,6 @@ _NUMBER = re.compile(r"0[xX][0-9a-fA-F]+|[0-9]+")
 _MAX_DIGITS = 20  # of a decimal number with 64 bits
 
 
-@dataclass(frozen=True)
-class Evaluation:
-    """The result of an expression: a row whose value may have several lines."""
-
-    item: Item
-
-
 def address_of(program: Program, text: str) -> int:
     """Return the address that a text names: a number or a symbol, to which `+` and a number may add bytes. Raises LabError."""
     name, sign, offset = text.strip().partition("+")
@@ -132,7 +125,7 @@ def completions(instant: Instant, frame: Frame, start: str) -> list[str]:
 def _item(instant: Instant, frame: Frame, name: str, path: expressions.Path, is_hex: bool) -> Item:
     """Return the row of a name, or of the element or field to which a path leads from it. Raises LabError."""
     if found := _VECTOR.fullmatch(name):
-        row = group_item(group_at(instant, int(found[1])), is_hex)
+        row = group_item(group_at(instant, int(found[1])))
         if not path:
             return row
         FrameNames(instant, frame).value(name, path)

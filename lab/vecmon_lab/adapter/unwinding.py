@@ -72,7 +72,7 @@ class CallFrames:
         """Return whether the image has call frame information for the function at an address."""
         return self._row(address) is not None
 
-    def _caller(self, row: "_Row", registers: Registers, stack: int, peek: Peek) -> list[int | None] | None:
+    def _caller(self, row: "_Row", registers: Registers, stack: int, peek: Peek) -> list[int | None]:
         """Return the registers of the caller. The value of ra is the address to which the function returns.
 
         row: the rules at the function's present address; registers: the function's registers; stack: the canonical frame address

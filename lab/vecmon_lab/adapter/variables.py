@@ -67,12 +67,10 @@ def scopes_of(instant: Instant, frame: Frame) -> list[Scope]:
         found.append(Scope(LOCALS, "locals", _all(lambda is_hex: [variable_item(each, is_hex) for each in own])))
     if frame.call.is_innermost:
         found.append(Scope(STATE, "registers", _all(lambda is_hex: [*_vector_state(instant)])))
-        found.append(
-            Scope(VECTORS, "registers", _all(lambda is_hex: [group_item(each, is_hex) for each in groups(instant)]))
-        )
+        found.append(Scope(VECTORS, "registers", _all(lambda _: [group_item(each) for each in groups(instant)])))
     found.append(Scope(SCALARS, "registers", _all(lambda is_hex: [*_scalars(instant, frame, is_hex)])))
     if frame.call.is_innermost:
-        found.append(Scope(LAST, "", _all(lambda is_hex: _last(instant, is_hex)), is_costly=True))
+        found.append(Scope(LAST, "", _all(lambda _: _last(instant)), is_costly=True))
     if shared:
         found.append(Scope(GLOBALS, "", _all(lambda is_hex: [variable_item(each, is_hex) for each in shared])))
     return found
@@ -138,7 +136,7 @@ def _vector_state(instant: Instant) -> Iterator[Item]:
     )
 
 
-def group_item(group: VectorGroup, is_hex: bool) -> Item:
+def group_item(group: VectorGroup) -> Item:
     """Return the row of a group of vector registers, with the rows of its elements below it."""
 
     def elements(start: int, count: int, is_hex: bool) -> list[Item]:
@@ -187,7 +185,7 @@ def variable_item(variable: CVariable, is_hex: bool) -> Item:
     )
 
 
-def _last(instant: Instant, is_hex: bool) -> list[Item]:
+def _last(instant: Instant) -> list[Item]:
     """Return the rows about the instruction that was executed last: its meaning, and its operands with the reason for each element."""
     rows: Sequence[tuple[str, str, VectorGroup | None]] = last_items(instant)
-    return [group_item(group, is_hex) if group else Item(name, text) for name, text, group in rows]
+    return [group_item(group) if group else Item(name, text) for name, text, group in rows]
