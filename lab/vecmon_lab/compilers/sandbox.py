@@ -52,7 +52,8 @@ class StartedAsRoot(LabError):
 def check_sandbox(account: Account = OWN) -> None:
     """Raise LabError if no sandbox can be made. Raise StartedAsRoot if it would run as root."""
     if shutil.which("bwrap") is None:
-        raise LabError(f"others' C is compiled behind bwrap alone, which isn't here: {tools_advice('bubblewrap')}")
+        remedy = tools_advice("bubblewrap")
+        raise LabError(f"others' C is compiled only in the sandbox of bwrap, which isn't installed: {remedy}")
     if account == OWN and os.geteuid() == 0:
         raise StartedAsRoot("others' C isn't compiled as root: add `--as nobody`, or start this as another user")
 
