@@ -1,16 +1,17 @@
 """Measures each kind of instruction compared with QEMU, and draws the results. At the top of the repository:
 
     tools/building/debian_packages measurements
-    tools/measuring/kinds time VECMON FILE                  nanoseconds an instruction, of QEMU and of VECMON in turn
-    tools/measuring/kinds count VECMON FILE                 machine instructions an instruction, of VECMON
+    tools/measuring/kinds time VECMON FILE                  nanoseconds of processor an instruction, of QEMU and of VECMON in turn
+    tools/measuring/kinds count VECMON FILE                 machine instructions an instruction, of QEMU and of VECMON
     tools/measuring/kinds draw FILE PICTURE                 the figures of FILE as an SVG
-    tools/measuring/kinds table FILE                        the times of FILE as a table of Markdown, and the means of their ratios
+    tools/measuring/kinds table FILE                        the times of FILE as a table of Markdown, and the means of the ratios
 
 FILE is a CSV such as `docs/kinds.csv`, with a line for each kind: an instruction, SEW and LMUL. `time` and `count` replace the figures in
 FILE; with `--before` they replace those of an earlier program. `--only TEXT` measures only the kinds whose instruction has that text.
 
 A kind is a loop of 16 equal instructions, an addi and a branch, in an image that both programs run; the time of one turn is taken
-off, and the figure is the median of the rounds. Times need a quiet machine; counts don't.
+off, and the figure is the least of the rounds. Times are those of the processor, so other work on the machine makes them longer only by
+sharing caches and cores: take more rounds there (`--rounds`). Counts don't vary.
 """
 
 import argparse
@@ -18,10 +19,10 @@ import csv
 import os
 import pathlib
 import re
+import resource
 import statistics
 import subprocess
 import tempfile
-import time
 from collections.abc import Callable, Iterator
 
 ALL = [(8, "m1"), (8, "m8"), (32, "m1"), (32, "m8")]
@@ -100,7 +101,8 @@ _start:
     vmv.v.i v8, 1
     vsetvli x0, a0, e{sew}, {lmul}, ta, ma
     vid.v v16
-    li s0, {turns}
+    la t0, turns
+    ld s0, 0(t0)
     .balign 64
 1:  .rept 16
     {text}
@@ -110,10 +112,14 @@ _start:
     li a0, 0
     li a7, 93
     ecall
+    .data
+    .balign 8
+turns: .dword 0x{turns:x}
     .bss
     .balign 4096
 area: .space 16384
 """
+TURNS = 0x7475726E732121  # in the place of the number of iterations
 COMPILER = (
     "clang-19 --target=riscv64-linux-gnu -march=rv64im_zicsr_zve64x -mabi=lp64 -nostdlib -static -fuse-ld=lld-19 "
     "-Wl,--no-relax,--build-id=none,-z,norelro,--image-base=0x10000"
@@ -121,8 +127,9 @@ COMPILER = (
 CPU = "rv64,Zve64f=true,vlen=256,elen=64,c=false,Zifencei=false"  # as Debian 12's QEMU 7.2 names it
 IN_A_TURN = 18  # instructions
 TICKS = 256  # at most, of an instruction
-SECONDS = 0.15  # at least, of the turns that are timed
-COLUMNS = ["instruction", "sew", "lmul", "qemu_ns", "ns", "ns_before", "count", "count_before"]
+SECONDS = 0.05  # at least, of the turns that are timed: the least of many short rounds varies less than that of a few long ones
+COLUMNS = ["instruction", "sew", "lmul", "qemu_ns", "ns", "ns_before", "qemu_count", "count", "count_before"]
+RATIOS_OF = [("qemu_ns", "ns_before"), ("qemu_ns", "ns"), ("qemu_count", "count_before"), ("qemu_count", "count")]
 RATIOS = [0.25, 0.5, 1, 2, 4, 8, 16, 32]  # marked in the picture
 Run = Callable[[int], float]  # the time of a number of iterations
 
@@ -137,9 +144,19 @@ class Kind:
         """The path of an image with a loop of this many iterations."""
         path = f"{self.room}/{turns}"
         if not os.path.exists(path):
-            source = SOURCE.format(sew=self.sew, lmul=self.lmul, turns=turns, text=self.text)
-            subprocess.run([*COMPILER, "-x", "assembler", "-o", path, "-"], input=source.encode(), check=True)
+            with open(path, "wb") as file:
+                file.write(self.image_for_any().replace(TURNS.to_bytes(8, "little"), turns.to_bytes(8, "little")))
+            os.chmod(path, 0o755)
         return path
+
+    def image_for_any(self) -> bytes:
+        """An image with TURNS in the place of the number of iterations, which is compiled once."""
+        path = f"{self.room}/any"
+        if not os.path.exists(path):
+            source = SOURCE.format(sew=self.sew, lmul=self.lmul, turns=TURNS, text=self.text)
+            subprocess.run([*COMPILER, "-x", "assembler", "-o", path, "-"], input=source.encode(), check=True)
+        with open(path, "rb") as file:
+            return file.read()
 
     def script(self, turns: int) -> str:
         """The path of a script that runs that image, with slices enough for each instruction's ticks."""
@@ -149,16 +166,26 @@ class Kind:
             file.write("1 enter\n1 load image\n1 go\n" + "* slices 1000\n" * slices)
         return path
 
+    def on_qemu(self, turns: int) -> list[str]:
+        """The command of a run on QEMU."""
+        return ["qemu-riscv64", "-cpu", CPU, self.image(turns)]
+
     def on_vecmon(self, program: str, turns: int) -> list[str]:
         """The command of a run on vecmon."""
         return [program, "--quantum", "1000", self.script(turns), f"image={self.image(turns)}"]
 
 
+def processor_seconds() -> float:
+    """The seconds of processor that all ended child processes took, in user mode and in the system."""
+    used = resource.getrusage(resource.RUSAGE_CHILDREN)
+    return used.ru_utime + used.ru_stime
+
+
 def run(words: list[str]) -> tuple[float, str]:
-    """The seconds that a program takes, and its standard error. Raises ValueError where it doesn't come to its end."""
-    start = time.perf_counter()
+    """The seconds of processor of a program, and its standard error. Raises ValueError where it doesn't come to its end."""
+    start = processor_seconds()
     ended = subprocess.run(words, capture_output=True, text=True, check=True)
-    taken = time.perf_counter() - start
+    taken = processor_seconds() - start
     if "--quantum" in words and "\n1 exit 0 " not in ended.stdout:
         raise ValueError(f"{' '.join(words)} doesn't come to its end: {ended.stdout[-300:]}")
     return taken, ended.stderr
@@ -175,30 +202,26 @@ def nanoseconds(taken: Run, turns: int) -> tuple[float, int]:
 
 
 def times(kind: Kind, program: str, rounds: int) -> tuple[float, float]:
-    """The nanoseconds of an instruction of a kind by QEMU and by vecmon, each the median of the rounds."""
+    """The nanoseconds of an instruction of a kind by QEMU and by vecmon, each the least of the rounds."""
     both: list[tuple[Run, list[float]]] = [
-        (lambda turns: run(["qemu-riscv64", "-cpu", CPU, kind.image(turns)])[0], []),
+        (lambda turns: run(kind.on_qemu(turns))[0], []),
         (lambda turns: run(kind.on_vecmon(program, turns))[0], []),
     ]
-    turns = [20_000, 20_000]
+    turns = [1_000, 1_000]
     for _ in range(rounds):
         for which, (taken, found) in enumerate(both):
             value, turns[which] = nanoseconds(taken, turns[which])
             found.append(value)
-    return statistics.median(both[0][1]), statistics.median(both[1][1])
+    return min(both[0][1]), min(both[1][1])
 
 
-def count(kind: Kind, program: str) -> int:
-    """The machine instructions of an instruction of a kind."""
+def count(kind: Kind, command: Callable[[int], list[str]]) -> int:
+    """The machine instructions of an instruction of a kind, by a program whose command for a number of iterations is given."""
 
     def counted(turns: int) -> int:
-        words = [
-            "valgrind",
-            "--tool=callgrind",
-            f"--callgrind-out-file={kind.room}/counts",
-            *kind.on_vecmon(program, turns),
-        ]
-        found = re.search(r"Collected : (\d+)", run(words)[1])
+        # QEMU writes the code that it runs, so valgrind must notice new code at an old address.
+        words = ["valgrind", "--tool=callgrind", f"--callgrind-out-file={kind.room}/counts", "--smc-check=all"]
+        found = re.search(r"Collected : (\d+)", run([*words, *command(turns)])[1])
         assert found
         return int(found[1])
 
@@ -237,7 +260,8 @@ def measure(words: argparse.Namespace) -> None:
         with tempfile.TemporaryDirectory() as room:
             kind = Kind(text, sew, lmul, room)
             if words.what == "count":
-                line["count" + after] = str(count(kind, words.vecmon))
+                line["qemu_count"] = str(count(kind, kind.on_qemu))
+                line["count" + after] = str(count(kind, lambda turns: kind.on_vecmon(words.vecmon, turns)))
             else:
                 qemu, ours = times(kind, words.vecmon, words.rounds)
                 line["qemu_ns"], line["ns" + after] = f"{qemu:.1f}", f"{ours:.1f}"
@@ -261,20 +285,19 @@ def table(file: pathlib.Path) -> Iterator[str]:
         yield f"| `{text.format(sew='N', lmul='..')}` | " + " | ".join(cells) + " |"
 
 
-def ratios(file: pathlib.Path, column: str) -> dict[str, float]:
-    """QEMU's time over vecmon's of the kinds that take QEMU more than 5 ns, such as those it executes by a call."""
-    lines = [it for it in read(file).values() if it.get(column) and float(it["qemu_ns"]) > 5]
+def ratios(file: pathlib.Path, qemu: str, ours: str) -> dict[str, float]:
+    """A column of QEMU's over one of vecmon's, of the kinds that take QEMU more than 5 ns, such as those it executes by a call."""
+    lines = [it for it in read(file).values() if it.get(qemu) and it.get(ours) and float(it["qemu_ns"]) > 5]
     name = "{instruction}, e{sew}, {lmul}"
-    return {name.format(**it): float(it["qemu_ns"]) / float(it[column]) for it in lines}
+    return {name.format(**it): float(it[qemu]) / float(it[ours]) for it in lines}
 
 
 def summary(file: pathlib.Path) -> Iterator[str]:
-    """The geometric mean of these ratios, before and now, and the slow kinds."""
-    for column in ("ns_before", "ns"):
-        found = ratios(file, column)
-        if found:
+    """The geometric mean of these ratios, before and now, by times and by machine instructions, and the slow kinds."""
+    for qemu, ours in RATIOS_OF:
+        if found := ratios(file, qemu, ours):
             mean, slow = statistics.geometric_mean(found.values()), sorted(it for it in found if found[it] < 0.5)
-            yield f"{column}: {len(found)} kinds, geometric mean {mean:.2f}, {len(slow)} below 0.5: " + "; ".join(slow)
+            yield f"{ours}: {len(found)} kinds, geometric mean {mean:.2f}, {len(slow)} below 0.5: " + "; ".join(slow)
 
 
 def draw(file: pathlib.Path, picture: pathlib.Path) -> None:
@@ -306,11 +329,14 @@ def draw(file: pathlib.Path, picture: pathlib.Path) -> None:
     left.minorticks_off()
     left.set_ylim(-1, len(lines))
     left.tick_params(axis="y", labelsize=6, length=0)
-    for name, colour in (("count_before", "#ff7f0e"), ("count", "#1f77b4")):
+    for name, colour, label in (
+        ("qemu_count", "#b0b0b0", "QEMU"),
+        ("count_before", "#ff7f0e", "vecmon before"),
+        ("count", "#1f77b4", "vecmon now"),
+    ):
         found = [(float(it[name]), place) for place, it in zip(places, lines) if it.get(name)]
-        label = "before" if name == "count_before" else "now"
         right.scatter([it[0] for it in found], [it[1] for it in found], s=9, color=colour, label=label)
-    right.set(xscale="log", xlabel="machine instructions of vecmon an instruction")
+    right.set(xscale="log", xlabel="machine instructions an instruction")
     right.legend(frameon=False, labelcolor=grey, loc="lower right")
     for axes in (left, right):
         axes.grid(axis="x", color=grey, alpha=0.25)
