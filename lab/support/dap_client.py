@@ -9,12 +9,14 @@ import subprocess
 import sys
 import threading
 from collections.abc import Mapping, Sequence
+from functools import partial
 from types import TracebackType
 from typing import Any
 
 from support.busy_host import PATIENCE
 from support.places import TOP
 from support.terminal import MAX_SECONDS
+from vecmon_lab.adapter.client_output import ClientOutput
 from vecmon_lab.adapter.session import Session
 from vecmon_lab.adapter.wire import Wire
 
@@ -187,13 +189,9 @@ class Client:
 
 def _serve(source: int, target: int) -> None:
     """Serve a client over two pipes, as the command does over standard input and output. Closes them."""
-
-    def write(data: bytes) -> None:
-        while data:
-            data = data[os.write(target, data) :]
-
+    output = ClientOutput(source, target, partial(os.write, target))
     try:
-        Session(Wire(source, write)).serve()
+        Session(Wire(source, output.write)).serve()
     finally:
         os.close(source)
         os.close(target)

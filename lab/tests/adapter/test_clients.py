@@ -1,11 +1,15 @@
 """The process of the debug adapter: its clients go away, at any moment; signals, ports, and programs that don't end."""
 
+import fcntl
 import os
 import pathlib
 import re
 import signal
 import socket
 import subprocess
+import sys
+import termios
+import time
 from collections.abc import Iterator
 
 import pytest
@@ -17,6 +21,7 @@ from vecmon_lab.__main__ import main
 
 SOURCE = EXAMPLES / "strip_mined.s"
 ENDLESS = "loop: addi t0, t0, 1\nj loop\n"
+PRINTING = "loop: li a7, 64\nli a0, 1\nli a2, 4096\nli a1, 0x10000\necall\nj loop\n"
 
 
 @pytest.fixture
@@ -127,6 +132,14 @@ def test_failed_launch_shows_its_mistakes_and_ends_the_debugging(
     assert client.program and client.program.wait(PATIENCE) == 0
 
 
+def wait_for_full_pipe(number: int) -> None:
+    """Wait until a pipe, of which this file descriptor reads, has bytes and their number doesn't rise any more."""
+    counts = [0]
+    while not counts[-1] or len(counts) < 20 or counts[-20] < counts[-1]:
+        time.sleep(0.05)
+        counts.append(int.from_bytes(fcntl.ioctl(number, termios.FIONREAD, bytes(4)), sys.byteorder))
+
+
 def unignored() -> None:
     """Let SIGHUP end a process, even if these tests run under nohup."""
     signal.signal(signal.SIGHUP, signal.SIG_DFL)
@@ -156,6 +169,23 @@ def test_client_that_reads_nothing_more_ends_the_adapter(client: Client, endless
     except BrokenPipeError:
         pass
     assert client.program.wait() == 0
+
+
+def test_client_that_leaves_a_full_pipe_ends_the_adapter(tmp_path: pathlib.Path) -> None:
+    """The client sends nothing more, and its end of the adapter's output is open, full and unread."""
+    source, folder = tmp_path / "printing.s", tmp_path / "temporary"
+    source.write_text(PRINTING)
+    folder.mkdir()
+    with Client.started(env={**os.environ, "TMPDIR": f"{folder}"}) as client:
+        client.launch(source)
+        client.ask("configurationDone")
+        assert client.program and client.program.stdin and client.program.stdout and [*folder.iterdir()]
+        number = client.program.pid
+        (machine,) = pathlib.Path(f"/proc/{number}/task/{number}/children").read_text().split()
+        wait_for_full_pipe(client.program.stdout.fileno())
+        client.program.stdin.close()
+        assert client.program.wait(PATIENCE) == 0
+    assert not [*folder.iterdir()] and not pathlib.Path(f"/proc/{machine}").exists()
 
 
 def test_bytes_that_are_no_messages_end_with_one_line() -> None:

@@ -1,11 +1,16 @@
-"""Messages of the Debug Adapter Protocol in pieces, together, and damaged."""
+"""Messages of the Debug Adapter Protocol in pieces, together, and damaged; and output that the client doesn't read."""
 
 import json
 import os
+import socket
+import threading
 from collections.abc import Iterator
+from functools import partial
 
 import pytest
 
+from vecmon_lab.adapter import client_output
+from vecmon_lab.adapter.client_output import ClientOutput
 from vecmon_lab.adapter.wire import MAX_BYTES, BadMessage, Wire
 from vecmon_lab.json_messages import BadContent, BadHead
 
@@ -107,3 +112,52 @@ def test_length_counts_bytes_of_what_is_sent(pipe: Pipe) -> None:
         head, _, content = data.partition(b"\r\n\r\n")
         assert head == b"Content-Length: %d" % len(content) and json.loads(content)["seq"] == number
     assert json.loads(pipe.written[0].partition(b"\r\n\r\n")[2])["body"]["output"] == "Größe ∞\n"
+
+
+def test_output_waits_for_a_client_that_reads_slowly() -> None:
+    """More than a pipe's 65,536 bytes are written while the client's own side is open."""
+    (source, target), (unread, output) = os.pipe(), os.pipe()
+    data, read = bytes(range(256)) * 1024, bytearray()
+
+    def read_all() -> None:
+        while len(read) < len(data):
+            read.extend(os.read(unread, 1000))
+
+    thread = threading.Thread(target=read_all)
+    thread.start()
+    ClientOutput(source, output, partial(os.write, output)).write(data)
+    thread.join()
+    assert read == data
+    for number in (source, target, unread, output):
+        os.close(number)
+
+
+@pytest.mark.parametrize("is_early", [True, False])
+def test_output_ends_for_a_client_that_has_gone_and_left_its_pipe(
+    monkeypatch: pytest.MonkeyPatch, is_early: bool
+) -> None:
+    """The client closes its side before the output is full, or while the adapter waits."""
+    monkeypatch.setattr(client_output, "GONE_SECONDS", 0)
+    (source, target), (unread, output) = os.pipe(), os.pipe()
+    timer = threading.Timer(0 if is_early else 0.2, os.close, [target])
+    timer.start()
+    to_client = ClientOutput(source, output, partial(os.write, output))
+    for _ in range(2):  # the second time at once
+        with pytest.raises(BrokenPipeError):
+            to_client.write(bytes(1 << 17))
+    timer.join()
+    for number in (source, unread, output):
+        os.close(number)
+
+
+def test_output_ends_for_a_client_of_a_port_that_has_gone(monkeypatch: pytest.MonkeyPatch) -> None:
+    """The client's socket sends nothing more, and is open for reading."""
+    monkeypatch.setattr(client_output, "GONE_SECONDS", 0)
+    client, own = socket.socketpair()
+    with client, own:
+        number = own.fileno()
+        to_client = ClientOutput(number, number, lambda data: own.send(data, socket.MSG_DONTWAIT))
+        client.shutdown(socket.SHUT_WR)
+        with pytest.raises(BrokenPipeError):
+            to_client.write(bytes(1 << 24))
+        assert client.recv(1) == bytes(1)

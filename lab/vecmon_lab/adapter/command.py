@@ -2,11 +2,14 @@
 
 import argparse
 import os
+import socket
+import sys
+from functools import partial
 
 from ..arguments import between
 from ..end_signals import ended_by_signals
-from ..output import write_out
 from ..port import HOST, one_client
+from .client_output import ClientOutput
 from .session import Session
 from .wire import Wire
 
@@ -24,8 +27,11 @@ def run(arguments: argparse.Namespace) -> int:
     """
     with ended_by_signals():
         if arguments.port is None:
-            Session(Wire(os.dup(0), write_out)).serve()
+            source, target = os.dup(0), sys.stdout.fileno()
+            Session(Wire(source, ClientOutput(source, target, partial(os.write, target)).write)).serve()
             return 0
         with one_client(arguments.port) as connection:
-            Session(Wire(connection.fileno(), connection.sendall)).serve()
+            number = connection.fileno()
+            output = ClientOutput(number, number, lambda data: connection.send(data, socket.MSG_DONTWAIT))
+            Session(Wire(number, output.write)).serve()
         return 0
