@@ -107,6 +107,7 @@ def test_wrong_requests_are_refused_at_a_stop(client: Client) -> None:
         ("readMemory", {"memoryReference": "0x10000", "count": 4, "offset": -1 << 64}),
         ("readMemory", {"memoryReference": "9" * 5000, "count": 4}),
         ("writeMemory", {"memoryReference": f"{1 << 64:#x}", "data": "AAAA"}),
+        ("writeMemory", {"memoryReference": "0x10000", "data": "é"}),
         ("disassemble", {"memoryReference": "_start+18446744073709551616", "instructionCount": 1}),
         ("disassemble", {"memoryReference": "0x10000", "instructionCount": 1, "instructionOffset": 1 << 62}),
         ("setVariable", {"variablesReference": 1, "name": "pc", "value": "9" * 5000}),

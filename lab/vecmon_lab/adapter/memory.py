@@ -1,7 +1,6 @@
 """Memory and instructions as a client reads and writes them."""
 
 import base64
-import binascii
 from collections.abc import Callable, Sequence
 from typing import Any
 
@@ -46,7 +45,7 @@ def write_memory(program: Program, address: int, text: str, is_partial: bool) ->
     """
     try:
         data = base64.b64decode(text, validate=True)
-    except binascii.Error as error:
+    except ValueError as error:  # as for other letters than those of ASCII; binascii.Error is one, too
         raise BadArguments("data isn't base64") from error
     if len(data) > MAX_BYTES:
         raise BadArguments(f"data has {MAX_BYTES:,} bytes at most")
