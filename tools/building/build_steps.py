@@ -33,7 +33,8 @@ def run(
 ) -> str:
     """Run a command, and return its output and messages. Raises Refusal with its first error if it fails.
 
-    step: the name of the built file, with which messages start; missing: the file that has to define the functions that the module calls"""
+    step: the name of the built file, with which messages start; missing: the file that has to define the functions that the module calls
+    """
     completed = subprocess.run(
         command,
         stdin=subprocess.DEVNULL,

@@ -267,5 +267,7 @@ def test_sandbox_refuses_root(monkeypatch: pytest.MonkeyPatch) -> None:
     with pytest.raises(LabError, match="as root"):
         check_sandbox()
     monkeypatch.setattr(shutil, "which", lambda name: None)
-    with pytest.raises(LabError, match="only in the sandbox of bwrap, which isn't installed: sudo apt install bubblewrap"):
+    with pytest.raises(
+        LabError, match="only in the sandbox of bwrap, which isn't installed: sudo apt install bubblewrap"
+    ):
         check_sandbox()
