@@ -166,7 +166,8 @@ def test_conditions_and_messages_decide_whether_a_breakpoint_stops(client: Clien
     ]
     assert client.value("a0") == "5 (0x5)"
     client.lines(SOURCE, MULTIPLY, logMessage="left: {a0}, none: {nothing}")
-    client.move("reverseContinue")
+    assert moves(client, "reverseContinue") == [("entry", FIRST)]
+    assert "left: " not in client.output("console")  # the way back prints nothing again
     assert moves(client, "continue") == [("breakpoint", LAST)]
     printed = client.output("console")
     assert "left: 13 (0xd), none: {there is no symbol nothing}\n" in printed and "left: 5 (0x5), " in printed

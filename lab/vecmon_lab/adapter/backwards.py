@@ -103,14 +103,14 @@ class Backwards:
             ):  # the last instruction executed is the one that accessed the watched data
                 return halt
         while True:
-            breaks = sorted(self._halts.breakpoints.addresses | addresses)
+            breaks = sorted(self._halts.breakpoints.stopping_addresses | addresses)
             is_there = self._halts.timeline.back_to_halt(breaks, self._halts.client.wants_stop)
             if is_there is None:
                 raise Paused
             if not is_there:
                 return Halt("entry", text=START)
             hit = self._halts.timeline.hit
-            if halt := self._halts.after_access(hit) if hit else self._halts.here():
+            if halt := self._halts.after_access(hit) if hit else self._halts.here(is_back=True):
                 return halt
             if not hit and self._halts.guest.pc in addresses:
                 return None

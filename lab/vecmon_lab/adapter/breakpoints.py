@@ -148,6 +148,12 @@ class Breakpoints:
         return self._set
 
     @property
+    def stopping_addresses(self) -> frozenset[int]:
+        """The addresses of the verified breakpoints that may stop the program, which those with a log message don't."""
+        stopping = [each.addresses for each in self if not each.problem and not each.log_message]
+        return self._set & {address for addresses in stopping for address in addresses}
+
+    @property
     def has_room(self) -> bool:
         """Whether the machine has room for a breakpoint at another address."""
         return len(self._set) < MAX_BREAKPOINTS

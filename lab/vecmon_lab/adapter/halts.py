@@ -91,11 +91,15 @@ class Halts:
             return Halt("exit", stop, self.guest.explain(stop))
         return Halt("exception" if stop.kind == "fault" else "breakpoint", stop, self.guest.explain(stop))
 
-    def here(self) -> Halt | None:
-        """Return the halt at the breakpoints of the program counter; None if none of them stops the program."""
+    def here(self, is_back: bool = False) -> Halt | None:
+        """Return the halt at the breakpoints of the program counter; None if none of them stops the program.
+
+        is_back: whether the program goes back; then log messages aren't printed
+        """
         if self.guest.pc not in self.breakpoints.addresses:
             return None
-        there = [each for each in self.breakpoints.at(self.guest.pc) if self._holds(each)]
+        asked = [each for each in self.breakpoints.at(self.guest.pc) if not (is_back and each.log_message)]
+        there = [each for each in asked if self._holds(each)]
         if not there:
             return None
         reasons = {"functions": "function breakpoint", "instructions": "instruction breakpoint"}
