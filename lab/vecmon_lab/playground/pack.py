@@ -99,10 +99,14 @@ def compiled(path: pathlib.Path, name: str) -> bytes:
 
 
 def modules(folder: pathlib.Path) -> Iterator[tuple[str, pathlib.Path]]:
-    """Yield the relative path of each module below a folder, and its path. Modules in LEFT_OUT are left out."""
+    """Yield the relative path of each module below a folder, and its path.
+
+    It leaves out modules in LEFT_OUT, and files in folders that no import can name, such as config-3.11-x86_64-linux-gnu. Debian has that
+    folder only where its package libpython3.11-dev is installed: with it the same sources would give other bytes.
+    """
     for path in sorted(folder.rglob("*.py")):
         name = path.relative_to(folder)
-        if not LEFT_OUT & set(name.parts):
+        if not LEFT_OUT & set(name.parts) and all(part.isidentifier() for part in name.parts[:-1]):
             yield str(name), path
 
 
