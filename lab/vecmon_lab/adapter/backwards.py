@@ -13,11 +13,12 @@ TRACE_LENGTH = 16  # the number of addresses that the machine's `trace` shows
 
 @dataclass(frozen=True)
 class _Passed:
-    """The last executed instructions, over which a step back by a line goes at once.
+    """The instructions that were executed last, over which `by_line` goes back at once.
 
-    count: the number of instructions; line: their source line, or None if it is unknown
-    is_complete: whether the step ends before these instructions, at the start of the line or of the program
-    is_behind_call: whether they begin after a call, at the instruction to which a function has returned
+    count: the number of these instructions
+    line: their source line; None if it is unknown
+    is_complete: whether the first of them is at the start of the source line or of the program, so that the step back ends there
+    is_behind_call: whether the first of them comes directly after a call, where the called function has returned
     """
 
     count: int
@@ -27,16 +28,17 @@ class _Passed:
 
 
 class Backwards:
-    """Moves a program back. Each movement returns the halt that ended it, or None if it was completed."""
+    """Moves a program back. Each movement returns the halt that ended it early; None if the movement was completed."""
 
     def __init__(self, halts: Halts, last: Callable[[], Halt]) -> None:
         """last: returns the halt of the last movement, forwards or back"""
         self._halts, self._last = halts, last
 
     def by_instructions(self, number: int) -> Halt | None:
-        """Go back over `number` instructions, or to the start of the program if fewer were executed; only then return a halt.
+        """Go back over `number` instructions. Return None if so many were executed.
 
-        Raises Paused if the client ends the movement, and LabError.
+        If fewer were executed, go back to the start of the program, and return a halt with the reason `entry`. Raises Paused if the client
+        ends the movement, and LabError if there is no way back.
         """
         with self._halts.unwatched():
             is_there = self._halts.timeline.back(number, self._halts.client.wants_stop)
@@ -45,9 +47,10 @@ class Backwards:
         return None if is_there else Halt("entry", text=START)
 
     def by_line(self) -> Halt | None:
-        """Go back to the start of the source line that was executed last, over the calls in it. Raises Paused and LabError.
+        """Go back to the start of the source line that was executed last, over the calls in this line.
 
-        If the program counter has no source line, go back over one instruction.
+        If the program counter has no source line, go back over one instruction. Return the halt if the program halts on the way, or is at
+        its start; otherwise return None. Raises Paused and LabError as `by_instructions` does.
         """
         if self._halts.line() is None:
             return self.by_instructions(1)
@@ -63,9 +66,9 @@ class Backwards:
             target = passed.line or self._halts.line()
 
     def _count_back(self, target: Line | None) -> _Passed:
-        """Return the last executed instructions of one source line, back to the line's start, or to a place where a function returned.
+        """Return the instructions of one source line that were executed last, back to the line's start, or to a function's return.
 
-        target: the line, if some of its instructions were passed before; None otherwise
+        target: the source line, if the step has gone back over some of its instructions already; otherwise None
         """
         trace = self._halts.guest.query("trace", Addresses).addresses
         words = self._halts.program.words({*trace, *(address - 4 for address in (*trace, self._halts.guest.pc))})
@@ -84,7 +87,7 @@ class Backwards:
         return _Passed(len(trace), target, len(trace) < TRACE_LENGTH)
 
     def _back_over_call(self) -> Halt | None:
-        """Go back from the instruction after a call to the call. Return the halt if another one comes first."""
+        """Go back from the instruction after a call to the call. Return the halt if the program halts on the way; otherwise None."""
         call, stack = self._halts.guest.pc - 4, self._halts.stack()
         while True:
             if halt := self.to_halt(frozenset({call})):
@@ -93,9 +96,10 @@ class Backwards:
                 return None
 
     def to_halt(self, addresses: frozenset[int]) -> Halt | None:
-        """Go back to a halt, to one of `addresses`, or to the start of the program. Return the halt, or None at one of the addresses.
+        """Go back to a breakpoint or an access to watched data, to one of `addresses`, or to the start of the program.
 
-        Raises Paused if the client ends the movement, and LabError.
+        The nearest of these places counts. Return None at one of `addresses`; otherwise return the halt, at the start with the reason
+        `entry`. Raises Paused and LabError as `by_instructions` does.
         """
         if self._last().reason == "data breakpoint" and not addresses:
             if halt := self.by_instructions(

@@ -45,7 +45,7 @@ class BreakpointRequests:
         }
 
     def holds(self, each: Breakpoint) -> bool:
-        """Return whether a breakpoint that was met stops the program. A breakpoint with a log message prints the message instead."""
+        """Return whether a breakpoint that was met stops the program. One with a log message prints the message, and doesn't stop it."""
         if each.condition and not self.holds_text(each.condition):
             return False
         if not each.log_message:

@@ -31,9 +31,9 @@ class Breakpoint:
     """A breakpoint of the client's.
 
     number: its identifier; kind: FUNCTIONS, INSTRUCTIONS, or the path of a source
-    wanted: the client's request; addresses: the addresses of its instructions, in rising order
-    file, line: its source line, with the file's name without the folder; "" and 0 if the line is unknown
-    problem: a sentence that says why it isn't verified, or ""
+    wanted: the client's request; addresses: the addresses of the instructions that have the breakpoint, in rising order
+    file, line: the name of the source file without its folder, and the number of the line, from 1; "" and 0 if they are unknown
+    problem: a sentence that says why the breakpoint isn't verified; "" if it is verified
     """
 
     number: int
@@ -60,7 +60,7 @@ class DataStop:
     """A data breakpoint of the client's.
 
     number: its identifier; watch: the watched memory; condition: an expression that has to be true for a stop, or ""
-    problem: a sentence that says why it isn't verified, or ""
+    problem: a sentence that says why the breakpoint isn't verified; "" if it is verified
     """
 
     number: int
@@ -70,10 +70,7 @@ class DataStop:
 
 
 class Breakpoints:
-    """All breakpoints of a program. Iteration yields those at lines, functions and addresses.
-
-    data: the data breakpoints
-    """
+    """All breakpoints of a program. Iteration yields the breakpoints at lines, functions and addresses; `data` has the data breakpoints."""
 
     def __init__(
         self,
@@ -91,7 +88,8 @@ class Breakpoints:
         self._found_ones = dict[
             str, Sequence[Breakpoint]
         ]()  # by kind, before the machine's addresses are given to them
-        self._all = dict[str, Sequence[Breakpoint]]()  # by kind; those without room have a problem
+        # By kind. A breakpoint for which the machine has no room has a problem.
+        self._all = dict[str, Sequence[Breakpoint]]()
         self._numbers = itertools.count(1)
         self._set = frozenset[int]()  # the addresses that the machine has
 
@@ -99,7 +97,7 @@ class Breakpoints:
         return itertools.chain(*self._all.values())
 
     def attach(self, program: Program) -> None:
-        """Set all breakpoints in a program that was loaded."""
+        """Set all breakpoints in a program that was just loaded. From now on, this is the program of these breakpoints."""
         self._program, self._set = program, frozenset()
         before = {each.number: each for each in self}
         for kind, saved in self._found_ones.items():
@@ -108,7 +106,10 @@ class Breakpoints:
         self._watch()
 
     def replace(self, kind: str, wanted: Sequence[Wanted]) -> Sequence[Breakpoint]:
-        """Set the breakpoints of a kind, and remove those that were set before. Return the new ones in the same order as `wanted`."""
+        """Replace the breakpoints of a kind. Return the new ones in the same order as `wanted`.
+
+        kind: as in `Breakpoint`; wanted: the client's requests. A breakpoint whose request is unchanged keeps its number.
+        """
         before, old = {each.number: each for each in self}, [*self._all.get(kind, ())]
         new = list[Breakpoint]()
         for each in wanted:
@@ -121,7 +122,7 @@ class Breakpoints:
         return self._all[kind]
 
     def replace_data(self, wanted: Sequence[DataBreakpoint]) -> Sequence[DataStop]:
-        """Set the data breakpoints, and remove those that were set before. Return the new ones in the same order as `wanted`.
+        """Replace the data breakpoints. Return the new ones in the same order as `wanted`.
 
         Raises BadArguments if the identifier of the data isn't one that `dataBreakpointInfo` returns.
         """
@@ -163,7 +164,7 @@ class Breakpoints:
         return [each for each in self if address in each.addresses and not each.problem]
 
     def lines(self, path: pathlib.Path) -> Mapping[int, Sequence[int]]:
-        """Return the lines of a source that may have a breakpoint, each with the addresses of the breakpoint."""
+        """Return the addresses of a breakpoint at each line that may have one, by the line's number. path: the path of the source"""
         return self._program.stops.get(path.name, {}) if self._program else {}
 
     def _watch(self) -> None:
@@ -234,9 +235,10 @@ class Breakpoints:
         return replace(each, file=line.file, line=line.number) if line else each
 
     def _place(self, before: Mapping[int, Breakpoint], kind: str) -> None:
-        """Give the machine's addresses to the breakpoints, the oldest first, and report the breakpoints that have changed.
+        """Set the breakpoints in the machine, the oldest first, as long as it has room; report the breakpoints that have changed.
 
-        before: the breakpoints as they were, by number; kind: the kind that isn't reported, since the response to the client has it
+        before: the earlier breakpoints, by number
+        kind: the kind of breakpoints that aren't reported, since the response to the client has them; "" for none
         """
         placed, used = dict[int, Breakpoint](), set[int]()
         for each in sorted(itertools.chain(*self._found_ones.values()), key=lambda it: it.number):

@@ -27,18 +27,21 @@ UNREADABLE = "unreadable memory"
 
 @dataclass(frozen=True)
 class CVariable:
-    """A variable, a field of a structure, or an element of an array.
+    """A variable of C with its bytes. Fields of structures, elements of arrays and targets of pointers are variables, too.
 
-    name, type: as C writes them; expression: an expression with its value
-    kind: the kind of its numbers with their bits, such as `i32` (see `typed_text`); "" if it has no numbers
+    name: the name that the client shows, such as `x`, or `[3]` for an element
+    type: the type in C, or the declaration with the type; "" if it is unknown
+    expression: an expression in C that has the variable's value; "" if there is none
+    kind: the kind and the number of bits of the variable's number, or of the numbers in an array, such as `i32` (see `typed_text`); "" if
+        there are no numbers
     counts: the dimensions of an array; empty for other variables
-    data: its bytes, or the reason why they are unknown
-    address: None if it isn't in memory
-    put: writes new bytes to it; None if it can't be changed
-    target: the kind of the numbers that a pointer points to; "" if it points to no numbers
-    layout: its type in the debug data; None if the debug data has none
-    at: reads another variable from memory. Its arguments are the variable without its bytes, the address and the number of bytes; None if the
-        variable can't be a pointer.
+    data: the bytes of the variable; if they are unknown, a text with the reason
+    address: the address of the variable; None if it isn't in memory
+    put: replaces the bytes of the variable by the bytes in the argument; None if the variable can't be changed
+    target: the kind of the numbers that a pointer points to, in the form of `kind`; "" if the variable doesn't point to numbers
+    layout: the variable's type in the debug data; None if the debug data has none
+    at: reads the target of a pointer from memory, and returns it. The arguments are the target without its bytes, its address and its number
+        of bytes. None if the variable can't be a pointer.
     """
 
     name: str
@@ -55,7 +58,7 @@ class CVariable:
 
     @property
     def is_known(self) -> bool:
-        """Whether its value is known: a number, an array, or fields."""
+        """Whether the variable's bytes are known, and are those of a number, a pointer, an array or a structure."""
         return not isinstance(self.data, str) and bool(self.kind or self.fields or self.counts and self.layout)
 
     @property
@@ -65,26 +68,26 @@ class CVariable:
 
     @property
     def can_change(self) -> bool:
-        """Whether it can be changed; only numbers can."""
+        """Whether the variable can be changed. Arrays and structures can't; only the numbers in them can."""
         return self.put is not None and self.is_known and bool(self.kind) and not self.counts
 
     @property
     def pointer(self) -> int | None:
-        """The address that a pointer has; None for other variables."""
+        """The address that a pointer contains; None if the variable isn't a pointer, or if its value is unknown."""
         return self.number() if self.is_known and not self.counts and self.kind[:1] == "x" else None
 
     @property
     def place(self) -> tuple[int, int] | None:
-        """Its address and its number of bytes; None if it isn't in memory."""
+        """The variable's address and number of bytes; None if it isn't in memory, or if its value is unknown."""
         return (self.address, len(self.data)) if self.address is not None and self.is_known else None
 
     @property
     def fields(self) -> Sequence[Field]:
-        """The fields of a structure; empty for other variables, also for an array of structures."""
+        """The fields of a structure; empty for other variables, such as an array of structures, and if the bytes are unknown."""
         return self.layout.fields if self.layout and not self.counts and not isinstance(self.data, str) else ()
 
     def number(self) -> int:
-        """Return its value as an unsigned number. Raises LabError if it isn't a number, or if its value is unknown."""
+        """Return the variable's value as an unsigned number. Raises LabError if it isn't a number, or if the value is unknown."""
         if self.data == UNREADABLE and self.address is not None:
             raise LabError(f"memory at {self.address:#x} can't be read")
         if isinstance(self.data, str):
@@ -94,14 +97,15 @@ class CVariable:
         return int.from_bytes(self.data, "little")
 
     def value(self) -> int:
-        """Return its value, which is signed if its type is. Raises LabError if it isn't a number, or if its value is unknown."""
+        """Return the variable's value, signed if its type is signed. Raises LabError if it isn't a number, or if the value is unknown."""
         number, bits = self.number(), int(self.kind[1:])
         return number - (1 << bits) if self.kind[0] in "ic" and number >> bits - 1 else number
 
     def text(self, is_hex: bool, depth: int = 0) -> str:
-        """Return its value as text, with arrays and structures in gdb's form.
+        """Return the variable's value as text, with arrays and structures in gdb's form. If the value is unknown, return the reason.
 
-        is_hex: whether numbers are written in hexadecimal; depth: the number of arrays and structures around it
+        is_hex: whether numbers are written in hexadecimal
+        depth: the number of arrays and structures in whose text this text is contained
         """
         if isinstance(self.data, str):
             return self.data
@@ -165,7 +169,7 @@ class CVariable:
 
     @property
     def has_pointee(self) -> bool:
-        """Whether it is a pointer to a value of a known type, and not a null pointer."""
+        """Whether the variable is a pointer to a value of a known type, and not a null pointer."""
         return bool(self.pointer and self.layout and self.layout.pointee and self.layout.pointee.size)
 
     def pointee(self) -> "CVariable | None":
@@ -176,11 +180,11 @@ class CVariable:
 
     @property
     def _operand(self) -> str:
-        """Its expression, in parentheses if it starts with `*`."""
+        """The variable's expression as an operand of `[]` or `.`: in parentheses if it starts with `*`."""
         return f"({self.expression})" if self.expression.startswith("*") else self.expression
 
     def _part(self, at: int, size: int) -> "CVariable":
-        """Return a variable with `size` of its bytes, from the offset `at` on."""
+        """Return this variable with only `size` of its bytes, from the offset `at` on."""
         assert not isinstance(self.data, str)
         return replace(
             self,
@@ -192,7 +196,7 @@ class CVariable:
     def _pointed(self, index: int, pointer: int, at: "Callable[[CVariable, int, int], CVariable]") -> "CVariable":
         """Return element `index` of the memory that a pointer points to. Raises LabError if the type of the element is unknown.
 
-        index: may be negative; pointer: the address in the pointer; at: the attribute `at`
+        index: the index of the element, which may be negative; pointer: the address in the pointer; at: the attribute `at`, which isn't None
         """
         layout = self.layout.pointee if self.layout else None
         size = layout.size if layout else int(self.target[1:] or 0) // 8
@@ -211,7 +215,7 @@ class CVariable:
         return at(blank, (pointer + index * size) % _ADDRESSES, size)
 
     def set(self, text: str) -> None:
-        """Set its value to the number in a text. Raises LabError."""
+        """Set the variable to the number in a text. Raises LabError if the variable can't be changed, or if the text isn't a valid number."""
         if self.put is None or not self.can_change:
             raise LabError(f"{self.name} can't be changed")
         bits = int(self.kind[1:])
@@ -219,7 +223,7 @@ class CVariable:
 
 
 def c_variables(instant: Instant, frame: Frame) -> tuple[list[CVariable], list[CVariable]]:
-    """Return the local variables of a frame's function, and the global variables.
+    """Return two lists: the local variables of a frame's function, and the global variables.
 
     If several local variables in scope have the same name, only the one in the innermost block is returned.
     """
@@ -301,9 +305,9 @@ def _in_memory(instant: Instant, blank: CVariable, address: int, size: int) -> C
 
 
 def _in_vector_register(blank: CVariable, instant: Instant, frame: Frame, register: int) -> CVariable:
-    """Return the variable `blank` with the bytes of vector registers. register: the number of the first
+    """Return the variable `blank` with the bytes of vector registers. register: the number of the first register
 
-    If the debug data doesn't have a vector type for it, its elements are those of the vector type in force.
+    If the debug data has no vector type for the variable, the vector type in force determines its elements.
     """
     if not frame.call.is_innermost:
         return replace(blank, data=CHANGED)
@@ -342,7 +346,10 @@ def _put_register(instant: Instant, place: Location, data: bytes) -> None:
 
 
 def _put_part(put: Callable[[bytes], None], whole: bytes, at: int, data: bytes) -> None:
-    """Write bytes to a part of a variable. put: writes all of the variable's bytes; whole: the present ones; at: the offset of the part"""
+    """Write bytes to a part of a variable.
+
+    put: replaces all bytes of the variable; whole: the variable's present bytes; at: the offset of the part; data: the part's new bytes
+    """
     put(whole[:at] + data + whole[at + len(data) :])
 
 

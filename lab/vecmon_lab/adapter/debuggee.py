@@ -16,7 +16,7 @@ Body = dict[str, Any]
 Handlers = Mapping[str, tuple[type[Any], Callable[[Any], Body]]]
 """Requests by name: the class of their arguments, and the function that returns the body of the response.
 
-If the body has a function `start`, it isn't sent, but called after the response.
+If the body has the key `start`, its value is a function. This function isn't sent to the client, but called after the response was sent.
 """
 
 ADDRESSES, MAX_LETTERS = 1 << 64, 80  # the number of addresses, and the most letters of a client's text in a message
@@ -25,7 +25,7 @@ RUNNING = "the program is running: pause it first"
 
 
 class Debuggee:
-    """The program, the client's settings for it, and the values that the client is shown.
+    """The program, the client's settings, and the values that the client is shown.
 
     client: the client's abilities, and how it counts lines and columns
     launch, program: the arguments of the launch, and the program; None before a launch
@@ -87,7 +87,10 @@ class Debuggee:
             self.reports.event("invalidated", areas=["variables"])
 
     def address(self, text: str, offset: int = 0) -> int:
-        """Return the address that a text names, plus `offset` bytes. Raises LabError if the text names none, or if the sum isn't within 64 bits."""
+        """Return the address that a text names, plus `offset` bytes.
+
+        Raises LabError if the text doesn't name an address, or if the sum is below 0 or needs more than 64 bits.
+        """
         address = evaluation.address_of(self.current(), text) + offset
         if not 0 <= address < ADDRESSES:
             shown = f"{text.strip()[:MAX_LETTERS]} with the offset {offset}"
@@ -95,10 +98,14 @@ class Debuggee:
         return address
 
     def line_fields(self, line: Line, name: str) -> Body:
-        """Return two fields of a response about a source line: `line`, its number as the client counts, and, with the key `name`, its source."""
+        """Return the two fields of a response that describe a source line.
+
+        The field `line` is the line's number, as the client counts. The other field has the key `name`, and is the line's source file in the
+        protocol's form.
+        """
         return {"line": line.number - (not self.client.lines_start_at_1), name: self.source(line.file)}
 
     def source(self, file: str) -> Body:
-        """Return a source in the protocol's form, with the file's path if the file is found. file: its name without its folder"""
+        """Return a source file in the protocol's form, with its path if the file is found. file: the file's name without its folder"""
         path = self.program.path_of(file) if self.program else None
         return {"name": file, "path": f"{path}"} if path else {"name": file, "presentationHint": "deemphasize"}

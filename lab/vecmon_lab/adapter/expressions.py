@@ -67,7 +67,7 @@ class Value(NamedTuple):
 
 
 Path = tuple[int | str, ...]
-"""The indices and the names of fields that lead from a name to a part of its value. `*` is index 0, and `->` index 0 and a field."""
+"""The indices and the names of fields that lead from a name to a part of its value. `*` is index 0, and `->` is index 0 and then a field."""
 
 
 class Names(Protocol):

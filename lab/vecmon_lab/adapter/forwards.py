@@ -14,7 +14,11 @@ BLOCK_WORDS = 16  # the most instructions that are executed at once
 
 
 class Forwards:
-    """Moves a program forwards. Each movement returns the halt that ended it, or None if it was completed."""
+    """Moves a program forwards.
+
+    Each movement except `go_on` returns the halt that ended it early; None if the movement was completed. A movement raises Paused if the
+    client wants the program to stop, or has gone.
+    """
 
     def __init__(self, halts: Halts, frames: Callable[[], Sequence[CallFrame]]) -> None:
         """frames: returns the call stack at the program counter, the innermost function first"""
@@ -22,7 +26,11 @@ class Forwards:
         self._words = dict[int, int]()  # words by address, as they were when the step began
 
     def go_on(self) -> Halt:
-        """Run to a halt. The client's requests are answered after each stop, even in a loop with a breakpoint at each instruction."""
+        """Run the program until it halts, and return the halt.
+
+        The machine may stop where the program doesn't halt, such as at a breakpoint whose condition is false. After each such stop, and when a
+        request arrives, the client's requests are answered, and the program runs on.
+        """
         while True:
             stop = self._halts.timeline.go(self._halts.client.has_requests)
             if stop and (halt := self._halts.at_stop(stop)):
@@ -30,24 +38,25 @@ class Forwards:
             self._halts.attend()
 
     def _step_once(self) -> Halt | None:
-        """Execute one instruction. Return the halt after it; None if the movement may go on."""
+        """Execute one instruction. Return the halt if the program halts at or after this instruction; None if the movement may go on."""
         self._halts.attend()
         stop = self._halts.timeline.step()
         return self._halts.at_stop(stop) if stop else self._halts.here()
 
     def step_call(self, is_over: bool) -> Halt | None:
-        """Execute one instruction. is_over: whether to execute a call up to its return"""
+        """Execute one instruction. is_over: whether the function that a call instruction calls is executed as well, up to its return"""
         pc = self._halts.guest.pc
         return self._pass_call() if is_over and is_call(self._halts.guest.word_at(pc)[0]) else self._step_once()
 
     def _pass_call(self) -> Halt | None:
-        """Execute a call up to the instruction after it."""
+        """Execute a call instruction and the called function, up to the instruction after the call."""
         return self.run_to(self._halts.guest.pc + 4, self._halts.stack())
 
     def run_to(self, address: int, stack: int) -> Halt | None:
-        """Run to an address; return the halt if the program halts before.
+        """Run to an address. Return None there; if the program halts first, or at a breakpoint at this address, return the halt.
 
-        stack: the lowest stack pointer at the end; at a lower one the address is reached in a deeper call, and the program goes on
+        stack: the least value of the stack pointer at the end. If the program reaches the address with a lower stack pointer, it is in a
+        deeper call, and runs on.
         """
         is_new = address not in self._halts.breakpoints.addresses
         if is_new and not self._halts.breakpoints.has_room:
@@ -83,9 +92,11 @@ class Forwards:
                 return None
 
     def step_line(self, is_over: bool) -> Halt | None:
-        """Execute instructions up to another source line. Calls of functions without source lines are executed up to their return.
+        """Execute instructions up to another source line, or only one if the present instruction has no source line.
 
-        is_over: whether to execute the calls of other functions up to their return, too, and inlined copies up to their end
+        A function without source lines that is called is executed up to its return.
+
+        is_over: whether all other functions that are called are executed up to their return as well, and inlined copies up to their end
         """
         start, copies = self._halts.line(), [copy.number for copy in self._copies()]
         self._words.clear()
@@ -97,9 +108,10 @@ class Forwards:
                 return None
 
     def _step_part(self, is_over: bool, line: Line | None) -> Halt | None:
-        """Execute a call up to its return, one instruction, or several instructions of a line up to one that may jump.
+        """Execute a part of a step: a call up to its return, one instruction, or several successive instructions of a line.
 
-        is_over: whether to execute all calls up to their return; line: the line of the present instruction, or None
+        is_over: whether all called functions are executed up to their return; otherwise only those without source lines
+        line: the source line of the present instruction; None if it has none
         """
         pc = self._halts.guest.pc
         if is_call(self._word(pc)) and (is_over or self._calls_unknown(pc)):
@@ -112,9 +124,10 @@ class Forwards:
         return self._halts.at_stop(stop) if stop else self._halts.here()
 
     def _straight(self, pc: int, line: Line) -> int:
-        """Return the number of instructions from an address on that execute one after another, at most BLOCK_WORDS.
+        """Return the number of instructions from the address `pc` on that can be executed at once, at most BLOCK_WORDS.
 
-        They belong to `line`. The last one may jump, or comes before a breakpoint, a call or an instruction of another line.
+        All of them belong to `line`. They end after the first instruction that may jump, and before the first breakpoint, call or instruction
+        of another line.
         """
         for count in range(1, BLOCK_WORDS + 1):
             address = pc + 4 * count
@@ -136,16 +149,17 @@ class Forwards:
         return self._halts.program.symbols.source.copies_at(self._halts.guest.pc)
 
     def _is_within(self, copies: Sequence[int], line: Line) -> bool:
-        """Return whether the program is in an inlined copy that the line calls from the innermost of `copies`.
+        """Return whether the program is in an inlined copy of a function that the line calls where the step started.
 
-        copies: the numbers of the inlined copies and the function around the start of the step, the innermost first; line: at this start
+        copies: the numbers of the inlined copies in which the step started, and of the function around them, the innermost first
+        line: the source line at which the step started
         """
         now = self._copies()
         called = [inner.called for inner, outer in zip(now, now[1:]) if [outer.number] == copies[:1]]
         return called == [f"{line.file}:{line.number}"]
 
     def _calls_unknown(self, pc: int) -> bool:
-        """Return whether the call at an address calls a function without source lines; false if it calls an address in a register."""
+        """Return whether the call instruction at `pc` calls a function without source lines; False if a register has the called address."""
         target = jump_target(pc, self._word(pc))
         return target is not None and self._halts.program.line(target) is None
 
@@ -165,7 +179,11 @@ class Forwards:
         return self._step_once()
 
     def to_line(self) -> Halt | None:
-        """Execute instructions up to one that has a source line, if the present one has none and is in a function with source lines."""
+        """Leave instructions without a source line in a function that has source lines.
+
+        If the present instruction is such an instruction, execute instructions up to one that has a source line, or until the function has
+        returned. Otherwise do nothing, and return None.
+        """
         function, stack = self._halts.program.place(self._halts.guest.pc).partition("+")[0], self._frames()[0].stack
         if function not in self._halts.program.symbols.source.functions or stack is None:
             return None
@@ -175,7 +193,7 @@ class Forwards:
         return None
 
     def _leave_copy(self, number: int) -> Halt | None:
-        """Execute instructions up to one outside an inlined copy. number: the number of the copy"""
+        """Execute instructions, and calls up to their return, until the program is outside an inlined copy. number: the copy's number"""
         while True:
             if halt := self.step_call(True):
                 return halt

@@ -1,4 +1,8 @@
-"""The halts of a moving program: at stops, at breakpoints whose condition holds, and after accesses to watched data."""
+"""The halts of a moving program: at stops, at breakpoints whose condition holds, and after accesses to watched data.
+
+The machine reports a stop, such as a breakpoint, a fault or an exit. A halt ends a movement of the program, and is reported to the client. A
+stop at a breakpoint whose condition is false isn't a halt: the program goes on.
+"""
 
 import contextlib
 from collections.abc import Callable, Iterator, Sequence
@@ -33,7 +37,7 @@ class Client(Protocol):
 
 @dataclass(frozen=True)
 class Halt:
-    """The end of a movement.
+    """The end of a movement of the program, as it is reported to the client.
 
     reason: the reason in the protocol's words, such as `step` or `breakpoint`
     stop: the stop if the program stopped by itself, otherwise None; text: a sentence about the halt, or ""
@@ -82,7 +86,7 @@ class Halts:
             raise Paused
 
     def at_stop(self, stop: Stop) -> Halt | None:
-        """Return the halt at a stop of the machine; None if the program goes on, since no condition holds there."""
+        """Return the halt at a stop of the machine; None if the program should go on, since no breakpoint there has a condition that holds."""
         if stop.kind == "break":
             return self._pass_access(self.timeline.hit) if self.timeline.hit else self.here()
         if stop.kind == "exit":
@@ -92,7 +96,7 @@ class Halts:
         return Halt("exception" if stop.kind == "fault" else "breakpoint", stop, self.guest.explain(stop))
 
     def here(self, is_back: bool = False) -> Halt | None:
-        """Return the halt at the breakpoints of the program counter; None if none of them stops the program.
+        """Return the halt if a breakpoint at the program counter stops the program; None if no breakpoint there does.
 
         is_back: whether the program goes back; then log messages aren't printed
         """
@@ -108,7 +112,7 @@ class Halts:
     def _pass_access(self, hit: Watch) -> Halt | None:
         """Execute the instruction that accesses watched data, and return the halt after it; None if the program goes on.
 
-        hit: the watch, which the instruction meets. A watch for changes stops the program only if the data has changed.
+        hit: the watched data that the instruction accesses. A watch for changes stops the program only if the data has changed.
         """
         before = self.guest.peek(hit.address, hit.length)
         with self.unwatched():
@@ -120,7 +124,10 @@ class Halts:
         return self.after_access(hit) or self.here()
 
     def after_access(self, hit: Watch) -> Halt | None:
-        """Return the halt after an access to watched data; None if no data breakpoint of this watch has a condition that holds."""
+        """Return the halt after an access to watched data; None if the data has no data breakpoint whose condition holds.
+
+        hit: the watched data. A data breakpoint without a condition always stops the program.
+        """
         there = [each for each in self.breakpoints.data if each.watch == hit and not each.problem]
         met = [each.number for each in there if not each.condition or self._holds_text(each.condition)]
         verb = {"watch": "changed", "rwatch": "was loaded"}.get(hit.kind, "was accessed")

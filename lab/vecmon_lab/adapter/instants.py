@@ -102,9 +102,11 @@ class Instant:
             return self._last(earlier, _registers(earlier), "ran") if earlier else None
 
     def _last(self, earlier: Guest, before: Registers, end: End) -> LastInstruction:
-        """Return the instruction at the program counter of `earlier`, whose memory still has its word if the program has overwritten it.
+        """Return the last instruction, which is at the program counter of `earlier`.
 
-        earlier: the guest before the instruction, or the present guest after a fault; before: its registers; end: how the instruction ended
+        earlier: the guest in the state before the instruction, or the present guest after a fault. Its memory has the word of the
+            instruction even if the program has overwritten the word since.
+        before: the registers of `earlier`; end: how the instruction ended
         """
         guest, now, pc = self.program.guest, self.registers, earlier.pc
         word, text = earlier.word_at(pc)

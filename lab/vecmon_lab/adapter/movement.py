@@ -45,7 +45,7 @@ class Movement:
     def back(self, by_lines: bool) -> Halt:
         """Go back over one source line and the calls in it, or over one instruction. Return the halt. Raises LabError.
 
-        by_lines: whether to go back over a line
+        by_lines: whether to go back over a source line; otherwise the program goes back over one instruction
         """
         return self._moved(self._backwards.by_line if by_lines else lambda: self._backwards.by_instructions(1))
 
@@ -54,9 +54,10 @@ class Movement:
         return self._moved(lambda: self._backwards.to_halt(frozenset()) or Halt("entry", text=START))
 
     def _moved(self, move: Callable[[], Halt | None]) -> Halt:
-        """Execute a movement, record where it ended, and return this halt.
+        """Execute a movement, record its halt in the attribute `halt`, and return it.
 
-        move: returns the halt, or None if the movement was completed, which is the halt `step`; if it raises Paused, the halt is `pause`
+        move: executes the movement, and returns the halt that ended it early, or None if the movement was completed. The reason of the halt
+        is `step` if `move` returns None, and `pause` if it raises Paused.
         """
         try:
             self.halt = move() or Halt("step")

@@ -13,7 +13,8 @@ NO_STEP = "no instruction was executed yet"
 def last_items(instant: Instant) -> list[tuple[str, str, VectorGroup | None]]:
     """Return the rows about the last instruction. Raises LabError if the state before it can't be found.
 
-    Each row has a name and a text, or else, with the name "" and the text "", an operand's register group.
+    Each row is a name, a text and a register group. The row of an operand has the operand's register group, and "" as name and text. Each
+    other row has None in place of the group.
     """
     last = instant.last
     if last is None:
@@ -46,7 +47,10 @@ def why(instant: Instant, name: str, element: int | None) -> str:
 
 
 def _with_reasons(last: LastInstruction, group: VectorGroup) -> VectorGroup:
-    """Return the group of a destination with the reason for each element in place of its outcome. Other groups are returned unchanged."""
+    """Return the register group of a destination with the reason for each element in place of the element's outcome.
+
+    The group of a source is returned unchanged, and so is each group if there is no explanation.
+    """
     if not group.is_result or last.explanation is None:
         return group
     texts = dict(group.outcomes)

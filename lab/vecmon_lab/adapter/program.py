@@ -88,11 +88,11 @@ class Program:
         return self.guest.pc
 
     def scalars(self) -> Sequence[int]:
-        """The values of x0 to x31."""
+        """Return the values of x0 to x31."""
         return self.guest.query("regs", ScalarRegisters).x
 
     def control(self) -> ControlRegisters:
-        """The vector control registers."""
+        """Return the vector control registers."""
         return self.guest.query("vcsr", ControlRegisters)
 
     def place(self, address: int) -> str:
@@ -124,13 +124,17 @@ class Program:
         return sorted(self.stops)
 
     def show_at(self, path: pathlib.Path) -> None:
-        """Record the path by which the client names a source file."""
+        """Record the path that the client has for a source file. `path_of` returns it if it doesn't find a file of this name.
+
+        path: the path in a request of the client, with the file's name as its last part
+        """
         self._shown[path.name] = path
 
     def path_of(self, file: str) -> pathlib.Path | None:
-        """Return the path of the source file called `file`. If it isn't found, return the path by which the client names it, or None.
+        """Return the path of a source file. If the file isn't found, return its path in `show_at`; None if `show_at` has recorded none.
 
-        Symbolic links are resolved, except in the path of the launched source, which the client has named itself.
+        file: the file's name without its folder. Symbolic links in the path are resolved, except in the path of the launched source, which
+        the client has chosen.
         """
         if self.path.name == file and self.path.is_file():
             return self.path.absolute()
@@ -159,9 +163,9 @@ def _is_own(name: str) -> bool:
 
 
 def _built(path: pathlib.Path, launch: Launch, note: Callable[[str], object]) -> pathlib.Path:
-    """Return the path of the program's image, which is built if `path` is a source. Raises LabError and OSError.
+    """Return the path of the program's image, which is built first if `path` is a source. Raises LabError and OSError.
 
-    launch: has the compiler and its options; note: called with the compiler's warnings
+    launch: the arguments of the launch, with the compiler and its options; note: called with the compiler's warnings
     """
     if launch.options is not None and launch.options not in [choice.name for choice in CHOICES]:
         raise BadArguments(f"options is one of {', '.join(choice.name for choice in CHOICES)}")

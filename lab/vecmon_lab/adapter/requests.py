@@ -124,8 +124,10 @@ class SetInstructionBreakpoints:
 class DataBreakpointInfo:
     """The data that the client wants to watch, for a request of its address.
 
-    name: the name of a row, or an expression, or an address if `as_address` is true; variables_reference: the reference above the row, or 0
-    frame_id: the frame of the expression, or 0; bytes: the number of bytes; None for the data's own size
+    name: the name of a row, or an expression, or an address if `as_address` is true
+    variables_reference: the reference above the row; 0 for an expression or an address
+    frame_id: the number of the frame in which the expression is evaluated; 0 for the innermost frame
+    bytes: the number of bytes to watch; None for the data's own size
     """
 
     name: str
@@ -263,7 +265,8 @@ class WriteMemory:
 class Disassemble:
     """A range of instructions around an address.
 
-    memory_reference: the address, as text; offset: bytes that are added to it; instruction_offset: instructions that are added to it
+    memory_reference: the address, as text; offset: a number of bytes to add to the address
+    instruction_offset: a number of instructions to add to it, which may be negative; instruction_count: the number of instructions
     """
 
     memory_reference: str

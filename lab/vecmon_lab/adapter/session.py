@@ -39,7 +39,7 @@ STOPPING = ("pause", "cancel", "disconnect", "terminate", "restart")
 """Requests that end a movement of the program."""
 
 MEANWHILE = ("setBreakpoints", "setFunctionBreakpoints", "setInstructionBreakpoints", "setDataBreakpoints", "threads")
-"""Requests that are answered during a step. All requests except these and those of STOPPING wait for its end."""
+"""Requests that are answered during a step. All requests except these and those of STOPPING wait for the end of the step."""
 
 STARTING = ("launch", "attach")
 """Requests whose failure ends the session, since there is no program."""

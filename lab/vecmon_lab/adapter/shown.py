@@ -31,17 +31,23 @@ class _Reference:
 
 
 class Shown:
-    """The rows that the client is shown of an instant.
+    """The scopes, variables and values of a stopped program, in the form that the protocol has for the client.
 
-    When the client changes the program, the numbers of its references stay the same (`renewed`).
+    A reference is the number with which the client requests the rows below a scope or a value: the protocol's `variablesReference`. A scope
+    or a value gets its number when it is first returned. The numbers are valid until the program moves; a change of the program by the
+    client doesn't change them (see `renewed`).
     """
 
     def __init__(self, instant: Instant, references: Sequence[_Reference] = ()) -> None:
+        """instant: the state of the program; references: those that have numbers already, in the order of their numbers from 1 on"""
         self.instant = instant
         self._references = [*references]
 
     def renewed(self, instant: Instant) -> "Shown":
-        """Return the rows of a new instant with the same references, after the client has changed the program."""
+        """Return the values after the client has changed the program, with the same numbers of references.
+
+        instant: the state of the program after the change
+        """
         return Shown(instant, self._references)
 
     def scopes(self, frame: int) -> list[dict[str, Any]]:
@@ -51,7 +57,9 @@ class Shown:
     def variables(self, wanted: Variables) -> list[dict[str, Any]]:
         """Return the rows below a reference, in the protocol's form.
 
-        wanted: the reference, and the range of the rows. Raises LabError if the reference is unknown, or the range is negative.
+        wanted: the request, with the reference, the index of the first row, the number of rows (0 for all) and the form of numbers
+
+        Raises LabError if no scope or value has this reference, or if the index or the number of rows is negative.
         """
         reference = self._reference(wanted.variables_reference)
         if min(wanted.start, wanted.count) < 0:
@@ -60,14 +68,14 @@ class Shown:
         return [self._variable(each, reference) for each in rows]
 
     def set_variable(self, wanted: SetVariable) -> None:
-        """Set the value of a row below a reference. Raises LabError if that isn't possible."""
+        """Set the value of a row below a reference. Raises LabError if there is no such row, or if its value can't be changed."""
         item = self._row(self._reference(wanted.variables_reference), wanted.name, False)
         if item.change is None:
             raise LabError(f"{wanted.name} can't be changed")
         item.change(wanted.value)
 
     def value_again(self, number: int, name: str, form: ValueFormat) -> dict[str, Any]:
-        """Return the value of a row, in the protocol's form, after a change. Raises LabError if there is no such row.
+        """Return the present value of a row after a change, as fields of the protocol. Raises LabError if there is no such row.
 
         number: the number of the reference above the row; name: the row's name; form: how numbers are written
         """
@@ -76,7 +84,7 @@ class Shown:
         return {key: shown[key] for key in ("value", "variablesReference", "memoryReference") if key in shown}
 
     def set_expression(self, wanted: SetExpression) -> None:
-        """Set the value of an expression. Raises LabError if that isn't possible."""
+        """Set the register, element or variable that an expression names. Raises LabError if that isn't possible."""
         evaluation.set_expression(self.instant, self._frame(wanted.frame_id), wanted.expression, wanted.value)
 
     def evaluate(self, wanted: Evaluate) -> dict[str, Any]:
@@ -123,14 +131,21 @@ class Shown:
         return self._row(self._reference(number), name, False).place
 
     def place_of_expression(self, frame: int, text: str) -> tuple[int, int] | None:
-        """Return the address and the number of bytes of an expression; None if it isn't in memory, or can't be evaluated."""
+        """Return the address and the number of bytes of the memory that has the value of an expression.
+
+        frame: the number of the frame in which the expression is evaluated. Returns None if the expression can't be evaluated, or if its
+        value isn't in memory.
+        """
         try:
             return evaluation.evaluate(self.instant, self._frame(frame), text, "", False).place
         except LabError:
             return None
 
     def _frame(self, number: int) -> Frame:
-        """Return the frame of a request by its number. The innermost frame has number 1; 0 is a request without a frame. Raises LabError."""
+        """Return the frame with a number: 1 for the innermost one. Raises LabError if there is no such frame.
+
+        A request without a frame has the number 0, for which the innermost frame is returned.
+        """
         frames = self.instant.frames
         if not 0 <= number <= len(frames):
             raise LabError(f"there is no frame {number}")
@@ -155,7 +170,7 @@ class Shown:
         return {"name": scope.name, "variablesReference": number, "expensive": scope.is_costly, **hint}
 
     def _variable(self, item: Item, parent: _Reference, is_root: bool = False) -> dict[str, Any]:
-        """Return a row in the protocol's form. A row that has rows below it also has the number of a reference.
+        """Return a row in the protocol's form. If there are rows below this row, it gets the number of a reference to them.
 
         parent: the reference above the row; is_root: whether the row is the expression of `parent` itself
         """

@@ -139,8 +139,8 @@ def with_older_headers(data: bytes) -> bytes:
 class _Row:
     """The rules of a function from an address on.
 
-    first: the address from which the rules hold, up to the next row
-    register, offset: their sum is the canonical frame address; register is None if the address isn't such a sum
+    first: the address from which the rules hold, up to the first address of the next row
+    register, offset: the canonical frame address is the value of this register plus `offset`; `register` is None if the rule has another form
     rules: how to restore each register of the caller, by its number, in pyelftools' form
     """
 

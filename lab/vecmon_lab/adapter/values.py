@@ -50,7 +50,7 @@ def typed_text(kind: str, value: int, is_hex: bool) -> str:
 
 
 def read_number(text: str, bits: int) -> int:
-    """Return the number, or the code of the character, that a user typed, as an unsigned number. bits: its width
+    """Return the number, or the code of the character, that a user typed, as an unsigned number of at most `bits` bits.
 
     Text after a number is ignored, so that a user can type a value as it is shown: `-1 (0xff)`. Raises LabError if the text is neither a
     number nor a character, or if the number needs more bits.

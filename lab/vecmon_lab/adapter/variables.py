@@ -23,15 +23,17 @@ STATE, VECTORS, LAST = "Vector state", "Vector registers", "Last instruction"
 
 @dataclass(frozen=True)
 class Item:
-    """A row that a client shows.
+    """A row that a client shows for a register, an element, a variable or an expression.
 
-    name, value, type: as texts; expression: an expression with this value, or ""
-    children: returns the rows below it; None if there are none. Its arguments are the index of the first row, the number of rows (0 for all),
-        and whether numbers are written only in hexadecimal.
-    count: the number of rows below it if their names are indices; otherwise 0
-    address: the address of the memory that the client shows for the row: its own bytes, or those that a pointer points to; None without any
-    change: sets the value to the number in a text; None if the value can't be changed
-    place: its address and number of bytes; None if it isn't in memory
+    name, value, type: the texts that the client shows in the row; the type may be ""
+    expression: an expression that has the row's value, which the client can evaluate again; "" if there is none
+    children: returns the rows below this row; None if a row of this kind has none. The arguments are the index of the first row to return,
+        the number of rows (0 for all from the first on), and whether numbers are written only in hexadecimal.
+    count: the number of rows below this row, if their names are indices such as `[3]`; otherwise 0
+    address: the first address of the memory that the client can open from this row. For a pointer, or a register with an address, this is
+        the address in it; for any other variable, it is the variable's own address. None if there is no such memory.
+    change: sets the value to the number in a text, and raises LabError if that isn't possible; None if the value can't be changed
+    place: the address and the number of bytes of the memory that contains the value itself; None if the value isn't in memory
     """
 
     name: str
@@ -49,8 +51,9 @@ class Item:
 class Scope:
     """A scope of a frame.
 
-    hint: the kind of the scope in the protocol's words, or ""; items: returns its rows, as `Item.children` does
-    is_costly: whether it takes time to read, so that clients read it only if the user opens it
+    hint: the kind of the scope in the protocol's words, or ""
+    items: returns the rows of the scope, with the same arguments as `Item.children`
+    is_costly: whether the rows take time to read, so that clients request them only if the user opens the scope
     """
 
     name: str
@@ -77,7 +80,10 @@ def scopes_of(instant: Instant, frame: Frame) -> list[Scope]:
 
 
 def _all(make: Callable[[bool], list[Item]]) -> Callable[[int, int, bool], list[Item]]:
-    """Return a function that returns a range of a scope's rows. make: returns all of them; its argument is whether numbers are hexadecimal"""
+    """Return a function that returns a range of the rows of a scope, with the same arguments as `Item.children`.
+
+    make: returns all rows of the scope; its argument is whether numbers are written only in hexadecimal
+    """
     return lambda start, count, is_hex: make(is_hex)[start : start + count if count else None]
 
 
@@ -89,7 +95,7 @@ def send(guest: Guest, *commands: str) -> None:
 
 
 def _scalars(instant: Instant, frame: Frame, is_hex: bool) -> Iterator[Item]:
-    """Yield the rows of the program counter and of the scalar registers, each with both of its names, such as `x10/a0`."""
+    """Yield the rows of the program counter and of the scalar registers. A scalar register's row has both names, such as `x10/a0`."""
     guest, pc = instant.program.guest, frame.call.address
 
     def set_pc(text: str) -> None:
@@ -147,7 +153,7 @@ def group_item(group: VectorGroup) -> Item:
 
 
 def _element_item(group: VectorGroup, index: int, is_hex: bool) -> Item:
-    """Return the row of an element, with its outcome in the last instruction, or that it is in the tail."""
+    """Return the row of an element. After the value, it has the element's text in `group.outcomes`, if there is one."""
     value, outcome = number_text(group.values[index], group.width, is_hex), group.outcomes.get(index, "")
     change = functools.partial(group.change, index) if group.change else None
     text = f"{value}  {outcome}".rstrip()

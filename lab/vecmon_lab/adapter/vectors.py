@@ -23,11 +23,13 @@ _SHOWN = 16  # elements in the text of a group
 class VectorGroup:
     """Vector registers whose elements are numbered as one group.
 
-    name: the registers, such as `v8` or `v8-v11`; an operand's role precedes them; expression: the name of the first register
+    name: the names of the registers, such as `v8` or `v8-v11`; for an operand, its role in the instruction comes first
+    expression: the name of the first register
     type: the type of the elements, as a text for the user
     width: the width of an element, in bits; values: the unsigned values of the elements
-    outcomes: by the element's index, the text of its outcome in the last instruction, or that it is in the tail
-    change: sets an element; its arguments are the element's index and the number as text; None if the elements can't be changed
+    outcomes: texts by the index of an element: the element's outcome in the last instruction, or that the element is in the tail. An
+        element without such a text is missing.
+    change: sets an element to a number. The arguments are the element's index, and the number as text. None if the elements can't be changed.
     is_result: whether the group is the destination of the last instruction
     """
 
@@ -53,7 +55,7 @@ def outcome_text(outcome: str) -> str:
 
 
 def group_name(register: int, size: int) -> str:
-    """Return the name of a group: `v8`, or `v8-v11`. register: the first; size: the number of registers"""
+    """Return the name of a group, such as `v8` or `v8-v11`. register: the number of the first register; size: the number of registers"""
     return f"v{register}" if size == 1 else f"v{register}-v{register + size - 1}"
 
 

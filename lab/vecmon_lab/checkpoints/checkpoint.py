@@ -38,7 +38,7 @@ class NoCheckpoint(LabError):
 def checkpoint(opening: Opening, script: bytes, images: Mapping[str, pathlib.Path]) -> Checkpoint:
     """Make a checkpoint of the end of a script, or of an earlier place if the end has none.
 
-    opening: opens a session on a new machine; images: paths by name
+    opening: opens a session on a new machine; images: the paths of the images that the machine can load, by name
 
     Raises NoCheckpoint, and errors of a session.
     """
@@ -52,7 +52,10 @@ def checkpoint(opening: Opening, script: bytes, images: Mapping[str, pathlib.Pat
 
 
 def whole_checkpoint(opening: Opening, script: bytes, images: Mapping[str, pathlib.Path]) -> bytes:
-    """Return lines that replace a whole script; both machines are compared. Raises NoCheckpoint."""
+    """Return lines that replace a whole script.
+
+    Raises NoCheckpoint if there are no such lines, or if a comparison shows that the lines and the script leave machines in different states.
+    """
     with opening() as session:
         machine = machine_after(session, script, images)
     waiting = [digit for digit, shown in machine.shown.items() if shown.is_at_breakpoint]

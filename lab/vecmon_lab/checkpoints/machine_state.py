@@ -42,7 +42,7 @@ class User:
 
     image: the name of the loaded image, or ""
     maps: the address, number of pages and permission of each `map` since the image was loaded
-    has_area: whether the vector unit has a save area with the user's state; from lines only, whether there was a `vset`
+    has_area: whether the vector unit has a save area with the user's state. `follow_line` only sets it if the line is a `vset`.
     pages: permissions by the addresses of pages
     """
 
@@ -179,7 +179,7 @@ def _look(guest: Guest, user: User) -> Shown:
 
 
 def _switches(session: Session) -> dict[str, int]:
-    """Return the counts of the vector unit, and its owner, by name."""
+    """Return the counts of the vector unit by name, and its owner, which has the name `owner`."""
     switches = read(session.do("* stats"))
     assert isinstance(switches, Switches)
     return switches.counts

@@ -17,7 +17,7 @@ Memory = Mapping[int, bytes]
 def lines_of(machine: MachineState, fresh: Mapping[str, Memory]) -> list[str]:
     """Return the lines that bring a new machine into a state, except for the counts of its vector unit.
 
-    fresh: the contents of each user's new pages, by their addresses
+    fresh: by the user's digit, the contents that the user's pages have before the program starts, by their addresses
     """
     lines, users = list[str](), {digit: _SetUp(digit, machine, fresh[digit]) for digit in sorted(machine.users)}
     if machine.last != DIGITS[-1]:  # a program that faults in its first slice makes its user the user of the last turn

@@ -29,7 +29,8 @@ class Snapshot:
     def lines(self, digit: str, fresh: Mapping[int, bytes]) -> Sequence[str]:
         """Return the lines that bring a new machine into this state, except for the counts of its vector unit.
 
-        digit: the user's; fresh: the contents of new pages, by their addresses
+        digit: the user's digit on the new machine
+        fresh: the contents that the user's pages have before the program starts, by their addresses
         """
         owner = digit if self.is_owner else "0"
         machine = MachineState({digit: self.user}, {digit: self.shown}, owner, self.is_owner, DIGITS[-1])
@@ -39,7 +40,7 @@ class Snapshot:
 def take_snapshot(guest: Guest, user: User, before: Snapshot | None = None) -> Snapshot:
     """Take a guest's snapshot by read-only commands.
 
-    user: the image and the pages; before: an earlier snapshot, with which equal pages share memory
+    user: the guest's image and pages; before: an earlier snapshot, whose pages are used again if their contents are equal, to save memory
     """
     switches = read(guest.session.looks(["* stats"]))
     assert isinstance(switches, Switches)
@@ -69,6 +70,6 @@ def _memory(guest: Guest, pages: Mapping[int, str]) -> dict[int, bytes]:
 
 
 def _shared(memory: dict[int, bytes], before: Snapshot | None) -> dict[int, bytes]:
-    """Return the same memory, with pages of an earlier snapshot in place of equal ones."""
+    """Return the same memory, in which pages of an earlier snapshot replace pages with equal contents, so that the copies are freed."""
     old = before.shown.memory if before else dict[int, bytes]()
     return {page: old[page] if old.get(page) == data else data for page, data in memory.items()}

@@ -11,7 +11,7 @@ from .. import LabError
 
 @dataclass(frozen=True)
 class Account:
-    """The numbers of a user and its group; None for those of this process. The user has no other groups."""
+    """The numbers of a user and the user's group; None for the user and the group of this process. A user with a number has no other groups."""
 
     user: int | None = None
     group: int | None = None
@@ -35,7 +35,8 @@ def add_account(parser: argparse.ArgumentParser) -> None:
 def account_named(name: str | None) -> Account:
     """Return the account of a user, or the account of this process if there is no name.
 
-    Raises LabError for an unknown user and for root. Unless root runs this process, also raises it for any user other than this process's.
+    Raises LabError for an unknown user and for root. If root doesn't run this process, it raises LabError also for any user other than the
+    one who runs this process.
     """
     if name is None:
         return OWN

@@ -31,8 +31,8 @@ Isolation = Callable[[Sequence[str], str], bytes]
 class CompiledProgram(Program):
     """A program that a compiler made.
 
-    rows: in rising order each address where instructions of another line begin, with the number of the line (0 for none) and the name of
-        the function that was inlined there ("" for none)
+    rows: the addresses where instructions of another line begin, in rising order. Each row has the address, the number of the line (0 for
+        none), and the name of the function that was inlined there ("" for none).
     variables: the variables in the source's debug data
     stops: the addresses of breakpoints, by line number
     entries: the first addresses of functions and their inlined copies, by name
@@ -51,7 +51,7 @@ class CompiledProgram(Program):
             raise SourceMistakes("\n".join(error.diagnostic(name) for error in self.mistakes))
 
     def text(self) -> range:
-        """The addresses of the program's instructions."""
+        """Return the addresses of the program's instructions."""
         return range(self.rows[0][0], self.rows[-1][0], 4) if self.rows else range(0)
 
     @property
@@ -65,22 +65,22 @@ class CompiledProgram(Program):
         return self.rows[at - 1][1] if at else 0
 
     def line_starts(self) -> dict[str, int]:
-        """Return the addresses where instructions of another line begin, each with the line's number (0 for none).
+        """Return the number of the line (0 for none) for each address where instructions of another line begin.
 
-        An instruction belongs to the line of the last such address that isn't above its own.
+        The addresses are in hexadecimal digits. An instruction belongs to the line of the last such address at or below its own address.
         """
         numbers = {address: number for address, number, _ in self.rows}  # the last row at each address
         pairs = zip(numbers.items(), [None, *numbers.values()])
         return {f"{address:x}": number for (address, number), before in pairs if number != before}
 
     def line_stops(self) -> dict[str, list[str]]:
-        """Return the addresses of each line's breakpoints, by line number."""
+        """Return the addresses of each line's breakpoints, in hexadecimal digits, by the line's number, in decimal digits."""
         return {f"{number}": [f"{address:x}" for address in addresses] for number, addresses in self.stops.items()}
 
     def source_lines(self, text: str) -> dict[str, str]:
-        """Return the number and the text of each source line that has instructions, by the address of its first instruction.
+        """Return the number and the text of each source line that has instructions, as one text, by the address where the line begins.
 
-        text: the source
+        The addresses are in hexadecimal digits. If instructions of a line are in several places, each place has an entry. text: the source
         """
         lines = ["", *text.split("\n")]
         texts, before = {}, 0
@@ -120,9 +120,10 @@ def read_compiled_program(reply: bytes, limit: int = IMAGE_BYTES) -> CompiledPro
 def program_of(
     image: Mapping[str, Any], warnings: Sequence[SourceError] = (), most_bytes: int = IMAGE_BYTES
 ) -> CompiledProgram:
-    """Return the program of an image, which has the form of `debug.Image`. Raises LabError if it is too large.
+    """Return the program of an image. Raises LabError if the image is too large.
 
-    most_bytes: the limit of bytes that aren't zeros
+    image: the image in the form of `debug.Image`; warnings: the compiler's warnings
+    most_bytes: the largest number of bytes that aren't zeros
     """
     segments = [(address, rights, size, bytes.fromhex(data)) for address, rights, size, data in image["segments"]]
     if len(segments) > MAX_SEGMENTS or not all(0 < size <= MAX_BYTES for _, _, size, _ in segments):
@@ -155,9 +156,11 @@ def variable_rows(variables: Sequence[Variable]) -> list[int]:
 def _stops(
     addresses_by_name: Mapping[str, Sequence[int]] | None, rows: Sequence[tuple[int, int, str]]
 ) -> tuple[dict[int, list[int]], dict[str, list[int]]]:
-    """Return the addresses of breakpoints, by line and by function.
+    """Return the addresses of breakpoints in two mappings: by the number of a line, and by the name of a function.
 
-    Images of version 1.0 have none. In these, a line's breakpoints are where its instructions begin.
+    addresses_by_name: the addresses by line or function, as in `debug.Image`. It is None for an image of version 1.0; then the breakpoints of a
+    line are where its instructions begin.
+    rows: as in `CompiledProgram`
     """
     stops, entries = dict[int, list[int]](), dict[str, list[int]]()
     for name, addresses in islice((addresses_by_name or {}).items(), MAX_ROWS):

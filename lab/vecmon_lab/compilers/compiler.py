@@ -91,8 +91,9 @@ class Compiler:
         choice: the number of the options
         is_answer: whether the source answers an exercise; then the compiler doesn't vectorize loops by itself
         is_alone: whether the source has its own `_start`, so that no runtime is linked
-        named: the path that debug data has for the source; if it ends in .S, the preprocessor reads an assembler source first
-        has_memory: whether memmove and memcmp are linked as well
+        named: the path of the source in debug data; "" for the source's name in its folder. If the path ends in .S, the preprocessor reads an
+            assembler source first.
+        has_memory: whether the runtime's memmove and memcmp are linked as well
         """
         source = source_of(choice)
         if self.is_clang:
@@ -105,7 +106,7 @@ class Compiler:
         if is_answer:
             plain = _PLAIN_CLANG if self.is_clang else _PLAIN_GCC
             own += ["-DVECMON_ANSWER", f"-Wl,--entry={FUNCTION}", *plain]
-        # a named source is debugged here, with the runtime's source; any other image is the same in each folder
+        # A named source is debugged on this computer, with the runtime's source. Any other image has the same bytes in each folder.
         places = {source: named} if named else {str(RUNTIME): "runtime", source: source}
         # A line marker sets this source's name, since assemblers map only folders.
         if named and source == ASSEMBLER_SOURCE:

@@ -25,7 +25,7 @@ _LIMITED = ("/usr/bin/prlimit", f"--nproc={PROCESSES}", "/usr/bin/python3", "-B"
 def check_container(*private: pathlib.Path) -> None:
     """Raise LabError if root doesn't run this process, or if the user nobody can read one of these files, or a file in these folders.
 
-    Raises ToolError if this can't be found out.
+    Raises ToolError if the check itself fails.
     """
     if os.geteuid():
         raise LabError("--no-sandbox is for root of a container: the compiler then runs as the user nobody")
@@ -45,7 +45,7 @@ def check_container(*private: pathlib.Path) -> None:
 def run_as_nobody(words: Sequence[str], text: str) -> bytes:
     """Run `sandbox_main` as the user nobody; return its output. Raises LabError and ToolError.
 
-    words: its arguments; text: the source
+    words: the arguments of `sandbox_main`; text: the source
     """
     with tempfile.TemporaryDirectory() as place:
         lab, folder = pathlib.Path(place, "lab"), pathlib.Path(place, "folder")

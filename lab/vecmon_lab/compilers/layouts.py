@@ -25,7 +25,7 @@ class Field(NamedTuple):
     """A field of a structure or union.
 
     offset: in bytes, from the start of the structure
-    bits: of a bit field the number of its first bit, counted from the start of the structure, and its width; None for other fields
+    bits: for a bit field, the number of its first bit, counted from the start of the structure, and its width in bits; None for other fields
     """
 
     name: str
@@ -138,7 +138,7 @@ def _plain(entry: "DIE") -> "DIE":
 
 
 def _inside(entry: "DIE") -> "DIE":
-    """Return the type in DW_AT_type of a type. Raises ValueError if there is none."""
+    """Return the type to which the attribute DW_AT_type of another type refers. Raises ValueError if there is no such attribute."""
     inside = entry_at(entry, "DW_AT_type")
     if inside is None:
         raise ValueError("a type of nothing")
@@ -169,7 +169,10 @@ def _vector_counts(entry: "DIE") -> Sequence[int]:
 
 
 def _fields(entry: "DIE", start: int, depth: int = 0) -> Iterator[Field]:
-    """Return the fields of a structure. start: its offset in bytes in the outermost structure"""
+    """Yield the fields of a structure.
+
+    start: the structure's offset in bytes from the start of the outermost structure; depth: the number of structures around it
+    """
     if entry.tag not in _STRUCTURES or depth > MAX_TYPEDEFS:
         return
     for child in entry.iter_children():

@@ -26,9 +26,11 @@ Sum = tuple[int, int]
 class Location(NamedTuple):
     """The place of a variable while the program counter is from `first` up to, but not at, `end`.
 
-    kind: `register`, the scalar register of this number; `vector`, the vector register of this number; `memory`, at the address that is the
-        sum of the register and the offset; `value`, this sum itself; `untold`, unknown
-    offset: 64 bits in hexadecimal digits
+    kind: where the variable is. `register`: in the scalar register with the number `register`; `vector`: in the vector register with this
+        number; `memory`: in memory at the address that is the scalar register's value plus `offset`; `value`: nowhere, but this sum is the
+        variable's value; `untold`: unknown.
+    register: the number of the register
+    offset: a number of 64 bits in hexadecimal digits
     """
 
     first: int

@@ -93,7 +93,7 @@ def sandboxed_compiler(name: str | None, account: Account = OWN) -> Compiler:
 def run_sandboxed(words: Sequence[str], text: str, account: Account = OWN) -> bytes:
     """Run `sandbox_main` in the sandbox for a source of others; return its output. Raises LabError and ToolError.
 
-    words: arguments; text: the source
+    words: the arguments of `sandbox_main`; text: the source; account: the user who runs the sandbox
     """
     return asyncio.run(run_in_sandbox_async(words, text, account))
 
@@ -108,8 +108,8 @@ async def run_in_sandbox_async(words: Sequence[str], text: str, account: Account
 def run_unsandboxed(words: Sequence[str], text: str, headers: pathlib.Path, saved: pathlib.Path | None = None) -> bytes:
     """Run `sandbox_main` without a sandbox for your own source; return its output. Raises LabError and ToolError.
 
-    headers: a folder from which the source may include files
-    saved: the folder in which source and image remain; None to delete them
+    words: the arguments of `sandbox_main`; text: the source; headers: a folder from which the source may include files
+    saved: the folder in which the source and its image remain; None to delete them
     """
     elftools()
     variables = os.environ | {"PYTHONPATH": f"{LAB}", "CPATH": f"{headers.absolute()}", "LC_ALL": "C.UTF-8"}
@@ -139,6 +139,9 @@ async def run_inside(
     command: Sequence[str], text: str, folder: pathlib.Path, variables: Mapping[str, str], account: Account = OWN
 ) -> bytes:
     """Run a command that starts `sandbox_main` for a source; return its output.
+
+    text: the source; folder: the folder in which the command runs; variables: the environment variables of the command
+    account: the user who runs the command
 
     Raises LabError if the output is too large, and ToolError if the command fails.
     """

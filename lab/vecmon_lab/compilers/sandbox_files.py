@@ -132,7 +132,10 @@ def _run(*command: str) -> "subprocess.CompletedProcess[str]":
 
 
 def _followed(path: str, links: dict[str, str]) -> dict[str, str]:
-    """Return a path after its symbolic links were followed, as key and value. Links of the path's last part are added to `links`."""
+    """Follow the symbolic links of a path, and return the result as a mapping from the resulting path to itself.
+
+    links: receives each link that was followed, as its path with its target. Only links of a path's last part are followed.
+    """
     while os.path.islink(path):
         links[path] = os.readlink(path)
         path = os.path.normpath(os.path.join(os.path.dirname(path), links[path]))
@@ -167,7 +170,10 @@ def _folders(paths: Iterable[str]) -> Iterator[str]:
 
 
 def _arguments(links: dict[str, str], files: dict[str, str]) -> Iterator[str]:
-    """Return the arguments for symbolic links, and for files by their paths in the sandbox."""
+    """Yield the arguments of bwrap that make symbolic links and files visible.
+
+    links: the target of each link, by the link's path; files: the path of each file on this computer, by its path in the sandbox
+    """
     for path, target in links.items():
         yield from ("--symlink", target, path)
     for path, source in files.items():

@@ -106,7 +106,10 @@ class Target:
     """A guest that gdb controls by packets. is_attached: whether gdb hasn't detached yet"""
 
     def __init__(self, guest: Guest, link: Link, image: pathlib.Path, restart: Callable[[Sequence[str]], None]) -> None:
-        """restart: loads the program on a new machine, with these arguments, or with the command's own if there are none"""
+        """guest: the program's user on its machine; link: the connection to gdb; image: the path of the program
+
+        restart: loads the program on a new machine. Its argument has the program's arguments; if it is empty, those of the command are used.
+        """
         self.is_attached, self._image, self._restart = True, image, restart
         self._is_extended = False  # whether gdb can run the program again
         self._guest, self._link, self._timeline = guest, link, self._new_timeline(guest)
@@ -153,7 +156,7 @@ class Target:
     def _run(self, file: str, *words: str) -> str:
         """Load the program again, and return its first stop, before its first instruction.
 
-        file: the program's path, or "" for the same one; words: its arguments, by default the command's own
+        file: the program's path, or "" for the same program; words: the program's arguments; if there are none, those of the command are used
         """
         if pathlib.Path(file).name not in ("", self._image.name):
             self._tell(f"{file} isn't {self._image.name}, which this machine runs: start the command with it")
@@ -202,7 +205,10 @@ class Target:
         return ""
 
     def _read_memory(self, address: str, length: int) -> str:
-        """Return the bytes from an address on, at most up to the end of its row; gdb then asks for the rest."""
+        """Return the bytes from an address on, at most up to the end of the address's row. gdb then requests the rest.
+
+        address: the address in hexadecimal digits; length: the number of bytes
+        """
         limit = LINE_BYTES - int(address, 16) % LINE_BYTES
         (answer,) = self._guest.ask(f"peek {address} {min(length, limit)}")
         return answer.data.hex() if isinstance(answer, Memory) else str(answer)
@@ -330,6 +336,9 @@ class Target:
 
 
 def _part(text: str, offset: str, length: str) -> str:
-    """Return a part of a text that gdb reads in parts. The first letter is `m` if more follows, `l` for the last part."""
+    """Return the reply with a part of a text that gdb reads in parts. It starts with `m` if more of the text follows, and otherwise with `l`.
+
+    offset, length: the start of the part and its largest length in characters, in hexadecimal digits
+    """
     part = text[int(offset, 16) :]
     return ("m" if len(part) > int(length, 16) else "l") + part[: int(length, 16)]

@@ -61,7 +61,9 @@ def report_inputs(path: pathlib.Path, text: str) -> None:
 
 
 def _segment(guest: Guest, digits: str, pages: str, permissions: str) -> Segment:
-    """Return a segment with the bytes of pages, from the arguments of the `map` that mapped them.
+    """Return a segment with the bytes of pages of a guest.
+
+    digits, pages, permissions: the arguments of the `map` that mapped the pages: their address, their number and their permissions
 
     Pages without instructions whose bytes are all 0 become a segment without data.
     """

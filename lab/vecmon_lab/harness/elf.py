@@ -76,7 +76,7 @@ def elf(
 
 
 def _section_of(segment: Segment, offset: int) -> _Section:
-    """Return the header of a segment's section. offset: of the segment's data in the file"""
+    """Return the header of a segment's section. offset: the offset of the segment's data in the file"""
     flags = _ALLOCATED | (_WRITABLE if segment.flags & WRITE else 0) | (_INSTRUCTIONS if segment.flags & EXECUTE else 0)
     kind = _PROGBITS if segment.data else _NOBITS
     return _Section(segment.section, kind, flags, segment.address, offset, segment.size, alignment=PAGE_BYTES)

@@ -1,7 +1,8 @@
-"""The environments in which golden programs run, and the code around the instructions that they test, assembled by the machine.
+"""The environments in which golden programs run, and the code that executes the instructions that they test (`Harness`).
 
-A program has a page for the tested instruction, two pages of memory, the code and its data, and after them a list: of cases, or of the
-words that the program executes. `Environment` has the addresses. Adding its base moves the pages of the instruction and of memory.
+The machine assembles this code from the sources in this folder. A golden program has a page for the tested instruction, two pages of memory,
+the code with its data, and after them a list of cases, or of the words that the program executes. An `Environment` has the code's address,
+and a base that is added to the addresses of the instruction's page and of the memory.
 """
 
 import functools
@@ -21,14 +22,20 @@ from ..machine.session import Session
 from .elf import EXECUTE, READ, WRITE, Segment, elf
 
 CODE, PC, MEMORY = 0x10000, 0x10800, 0x20000
-"""The page of the instruction, and its place in it; and the memory."""
+"""The addresses, without an environment's base, of the tested instruction's page, of this instruction, and of the memory."""
 
 MEMORY_BYTES = 2 * PAGE_BYTES
 BLOCK_BYTES = 1344
-"""Of the registers: how it ended, vl, vtype, vxrm, vxsat, vstart, a value, 0; v0 to v31; pc, x1 to x31."""
+"""The size in bytes of a block, which has the state of all registers after a case.
+
+It has 8 words of 64 bits (how the case ended, vl, vtype, vxrm, vxsat, vstart, the value of a fault, 0), then v0 to v31, pc, and x1 to x31.
+"""
 
 SPARE = (31, 29, 27, 25)
-"""The registers xS, by which a case comes back; xT is the one below it."""
+"""The numbers S of the registers xS with which the code returns from a tested instruction, by `jalr xS, 0(xS)`.
+
+The code for a case needs xS and the register below it, xT. The tested instruction uses neither of them.
+"""
 
 LIST = 0x40000
 """The distance from the code to the list of cases, or to the executed words."""
@@ -38,7 +45,7 @@ LIST = 0x40000
 class Environment:
     """An environment in which golden programs run.
 
-    files: the names of its sources
+    files: the names of the environment's own sources in this folder, without `.s`
     code: the address where the program starts
     ends: the numbers that report how a case ended, by the name of the end; cases with another end can't be tested there
     base: the number added to the addresses of the instruction and of memory
@@ -57,12 +64,18 @@ ENVIRONMENTS = {
     "vecmon": Environment(("vecmon", "calls"), 0x60000000, _ENDS),
     "bare": Environment(("bare",), 0x80000000, {"ran": 0, "fault 2": 3, "ebreak": 4}, 0x80000000),
 }
-"""Linux's user mode; vecmon; and a core in machine mode, whose memory begins at 80000000."""
+"""The environments by name: Linux's user mode, vecmon, and a core in machine mode, whose memory begins at the address 80000000."""
 
 
 @dataclass(frozen=True)
 class Harness:
-    """The assembled code around cases or a program: its source, the addresses of its labels, and its segments."""
+    """The assembled code that executes a list of cases, or a list of words, in an environment, and reports the result as a signature.
+
+    For each case, the code sets the registers and the memory, executes the case's instruction, and compares what the instruction has changed
+    with the expected state.
+
+    source: the source of the code; labels: the addresses of its labels, by name; segments: the assembled code and its data
+    """
 
     environment: Environment
     source: str
@@ -70,7 +83,7 @@ class Harness:
     segments: Sequence[Segment] = ()
 
     def image(self, data: bytes, memory: bytes = b"") -> bytes:
-        """Return an ELF file with this code. data: the bytes of the list; memory: the first bytes of the two pages of memory"""
+        """Return an ELF file with this code and a list. data: the bytes of the list; memory: the first bytes of the two pages of memory"""
         base, names = self.environment.base, ("_start", "begin_signature", "end_signature", "tohost", "fromhost")
         size = -(-len(data) // PAGE_BYTES) * PAGE_BYTES
         pages = [Segment(base + CODE, b"", PAGE_BYTES, READ | WRITE | EXECUTE)]
@@ -82,11 +95,12 @@ class Harness:
 
 @functools.cache
 def harness(environment: Environment, name: str, signature_words: int) -> Harness:
-    """Return the code around cases or a program in an environment.
+    """Return the code that executes a list of cases or words in an environment.
 
-    name: of the source, such as `cases`; signature_words: the number of 64-bit words of the signature
+    name: the name of the code's main source in this folder, such as `cases`
+    signature_words: the number of 64-bit words of the signature
 
-    Raises LabError if the machine refuses it.
+    Raises LabError if the machine refuses the code.
     """
     base, code = environment.base, environment.code
     numbers = {"CODE": base + CODE, "PC": base + PC, "MEMORY": base + MEMORY, "READ_ONLY": base + MEMORY + PAGE_BYTES}
@@ -106,14 +120,17 @@ def harness(environment: Environment, name: str, signature_words: int) -> Harnes
 
 
 def _segment(guest: Guest, digits: str, pages: str, permissions: str) -> Segment:
-    """Return a segment with the present bytes of pages, from the arguments of the `map` that mapped them."""
+    """Return a segment with the present bytes of pages of a guest.
+
+    digits, pages, permissions: the arguments of the `map` that mapped the pages: their address, their number and their permissions
+    """
     address, size = int(digits, 16), int(pages) * PAGE_BYTES
     flags = READ | (EXECUTE if "x" in permissions else WRITE)
     return Segment(address, guest.peek(address, size).rstrip(b"\0"), size, flags)
 
 
 def _source(name: str) -> str:
-    """Return a source of this folder. `cases` has an entry for each pair of registers that a case may leave unused."""
+    """Return a source of this folder. In `cases`, the code of `enter` is repeated for each pair of registers that a case may leave unused."""
     text = pathlib.Path(__file__).with_name(f"{name}.s").read_text("ascii")
     if name != "cases":
         return text

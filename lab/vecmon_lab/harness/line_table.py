@@ -18,7 +18,7 @@ _END_SEQUENCE, _SET_ADDRESS = b"\0\1\1", b"\0\x09\2"  # extended opcodes; an add
 def debug_sections(path: pathlib.Path, rows: Sequence[tuple[int, int]]) -> dict[str, bytes]:
     """Return the debug sections of an executable by name; none if there are no rows.
 
-    path: of the source
+    path: the path of the source
     rows: the address and the line of each instruction (4 bytes), in rising order of addresses
     """
     if not rows:

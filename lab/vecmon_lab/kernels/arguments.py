@@ -26,9 +26,9 @@ _UNSIGNED = (ctypes.c_ubyte, ctypes.c_ushort, ctypes.c_uint, ctypes.c_ulong, cty
 
 @dataclass(frozen=True)
 class Call:
-    """A call: the state that it starts in, and the type of its result.
+    """A call: the state in which it starts, and the type of its result.
 
-    layout: of the arrays; lines: commands that place the arrays and set the registers
+    layout: the arrays in the machine's memory; lines: the commands that place the arrays and set the registers
     result: the type of the result; None for void
     """
 
@@ -38,9 +38,9 @@ class Call:
 
 
 def call_of(symbol: str, arguments: Sequence[Argument], signature: Signature | None) -> Call:
-    """Return the registers and the memory of a call. Raises LabError for arguments that don't fit the function.
+    """Return a call of a function. Raises LabError for arguments that don't fit the function.
 
-    signature: of the function; None if its types aren't known
+    symbol: the function's name; signature: the function's types; None if they are unknown
     """
     result, parameters = _checked(symbol, len(arguments), signature)
     read = [_read(number, argument) for number, argument in enumerate(arguments, 1)]
@@ -56,7 +56,7 @@ def call_of(symbol: str, arguments: Sequence[Argument], signature: Signature | N
 
 
 def result_of(register: int, kind: Integer | None) -> int:
-    """Return the value of a result, from the 64 bits of a0. kind: its type; None for void, whose value is 0"""
+    """Return the value of a result. register: the 64 bits of a0; kind: the type of the result; None for void, whose value is 0"""
     if kind is None:
         return 0
     value = register % (1 << kind.bits)
@@ -64,7 +64,11 @@ def result_of(register: int, kind: Integer | None) -> int:
 
 
 def _checked(symbol: str, count: int, signature: Signature | None) -> tuple[Integer | None, Sequence[Declared | None]]:
-    """Return the type of a function's result, and the parameter of each argument, or None if it isn't known.
+    """Return the type of a function's result, and for each argument the function's parameter, or None if the parameter is unknown.
+
+    The type is None for void; if it is unknown, it is WORD.
+
+    symbol: the function's name; count: the number of arguments; signature: the function's types; None if they are unknown
 
     Raises LabError if the function can't be called with this number of arguments.
     """
@@ -102,9 +106,9 @@ def _check_callable(symbol: str, count: int, signature: Signature) -> None:
 
 
 def _read(number: int, argument: Argument) -> tuple[int, Integer | None] | Placed:
-    """Return the value of an argument, and its type or None if it has no type; return an array as it is placed.
+    """Return the value of an argument and its type, or None as the type of a Python integer. For an array, return its placement.
 
-    number: of the argument. Raises LabError for a number that isn't an integer.
+    number: the number of the argument, from 1. Raises LabError for a number that isn't an integer.
     """
     if typed := _of_ctypes(argument):
         return typed
@@ -152,7 +156,10 @@ def _of_ctypes(argument: Argument) -> tuple[int, Integer] | None:
 
 
 def _address(number: int, layout: Layout, parameter: Declared | None) -> int:
-    """Return the address to pass for an array argument. Raises LabError if the parameter is too small for an address."""
+    """Return the address to pass for an array argument. Raises LabError if the parameter's type is too small for an address.
+
+    number: the number of the argument, from 1; layout: the arrays of the call; parameter: the function's parameter; None if it is unknown
+    """
     kind = parameter.integer if parameter else None
     if parameter and kind and kind.bits < WORD.bits:
         raise LabError(f"argument {number} is an array, and {parameter.declaration} is no pointer")
@@ -164,7 +171,9 @@ def _register(number: int, value: int, kind: Integer | None, parameter: Declared
 
     Types of up to 32 bits are extended to 32 bits by their own signedness, and then sign-extended from bit 31 to 64 bits.
 
-    kind: the type of the argument itself, or None; parameter: of the function, or None; its type is used if it is known
+    number: the number of the argument, from 1; value: the argument's value
+    kind: the type of the argument itself; None if it has none. It is used only if the parameter is unknown.
+    parameter: the function's parameter; None if it is unknown
     """
     kind = (parameter.integer if parameter else kind) or WORD
     if not kind.smallest <= value <= kind.largest:

@@ -31,8 +31,8 @@ PERMISSIONS = ("r", "w", "rw")
 class Placed:
     """An array, and its place in its pages. The pages before and after them aren't mapped.
 
-    offset: from the start of the first page, 0 to 4,095; None to end the array at the end of its last page
-    permissions: that the program has: `r`, `w` or `rw`
+    offset: the offset in bytes from the start of the first page, 0 to 4,095; None to end the array at the end of its last page
+    permissions: the program's permissions for the array: `r`, `w` or `rw`
     """
 
     data: Array
@@ -44,8 +44,9 @@ class Placed:
 class _Given:
     """An argument that is an array.
 
-    number: of the argument, from 1
-    host: the addresses of its bytes in this process; empty if they are read-only or not contiguous, since a copy can't share memory
+    number: the number of the argument, from 1; data: the array's bytes
+    host: the addresses of the array's bytes in this process; empty if the bytes are read-only or not contiguous. Such an array is copied, so
+        it can't share memory with another one.
     """
 
     number: int
@@ -66,7 +67,7 @@ class PlacedArray:
 class Layout:
     """The arrays of a call in the machine's memory. Arrays that share memory in this process also share it in the machine.
 
-    arrays: by the number of their argument
+    arrays: the arrays by the number of their argument, from 1
     lines: the commands that map the pages and write the arrays
     """
 
@@ -84,7 +85,10 @@ class Layout:
         self.arrays = dict(sorted(self.arrays.items()))
 
     def _place(self, group: Sequence[_Given], page: int) -> int:
-        """Place arrays that share memory, starting at a page. Return the number of pages, at least one."""
+        """Place a group of arrays that share memory. Return the number of pages that they need, at least one.
+
+        page: the address of the first page for the group
+        """
         start, placed = group[0].host.start, group[0].placed
         data = bytearray(max(each.host.start - start + len(each.data) for each in group))
         offset = placed.offset

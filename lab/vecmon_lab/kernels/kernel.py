@@ -53,11 +53,11 @@ _MAIN = "\nint main(void) { return 0; }\n"
 class Result:
     """The results of a call.
 
-    value: the result, in its C type; if the type isn't known, a0, from 0 to 2^64 - 1; 0 for void
-    arrays: the arrays of the call, in their order, each with the type of the argument
-    output: the bytes that the call wrote
-    counts: of instructions and their elements; None if they weren't counted
-    bits: the width of the result's type; 64 if the type isn't known
+    value: the function's result, as a number of its C type; if the type is unknown, the number in a0, from 0 to 2^64 - 1; 0 for void
+    arrays: the contents of the arrays after the call, in the order of the arguments, each as an object of the argument's type
+    output: the bytes that the call printed
+    counts: the counts of instructions and their elements; None if they weren't counted
+    bits: the width of the result's type; 64 if the type is unknown
     """
 
     value: int
@@ -108,7 +108,9 @@ class Kernel(contextlib.AbstractContextManager["Kernel"]):
     ) -> None:
         """Load a program. Raises LabError.
 
-        options, compiler: as for `vecmon-lab lesson`; the default for C is O2; `stock` assembles with clang
+        path: the path of an image or a source
+        options, compiler: the names of a compiler's options and of a compiler, as for `vecmon-lab lesson`. The default options for C are O2;
+            `stock` assembles with clang.
         any_vlen: whether to accept an image for longer vector registers
         """
         self._path = pathlib.Path(path)
@@ -202,7 +204,7 @@ class Kernel(contextlib.AbstractContextManager["Kernel"]):
         return pathlib.Path(shutil.copyfile(self._path, pathlib.Path(folder, self._path.name)))
 
     def _opened(self, quantum: int = QUANTUM) -> Guest:
-        """Return a guest on a new machine, whose user has entered. quantum: ticks of a slice"""
+        """Return a guest on a new machine, whose user has entered. quantum: the number of ticks of a slice"""
         guest = Guest(Session(find_program(), self._images, quantum=quantum), report=self._report)
         guest.ask("enter")
         return guest
@@ -223,7 +225,7 @@ class Kernel(contextlib.AbstractContextManager["Kernel"]):
     def _renew(self, quantum: int | None = None) -> None:
         """Start another session if the script of this one is long, if its program may run, or if its slices have other ticks.
 
-        quantum: ticks of a slice; None to accept any number
+        quantum: the number of ticks of a slice; None to accept any number
         """
         session = self._guest.session
         if session.size > RENEWED_BYTES or not self._is_stopped or quantum not in (None, session.quantum):
@@ -231,7 +233,10 @@ class Kernel(contextlib.AbstractContextManager["Kernel"]):
             self._guest = self._opened(quantum or session.quantum)
 
     def _begin_call(self, symbol: str, policy: str, lines: Sequence[str]) -> Sequence[str]:
-        """Load the program, set the state for a call, and return the commands. Raises LabError if one is refused. lines: of the call"""
+        """Load the program, and set the state for a call. Return the commands that did this. Raises LabError if one is refused.
+
+        lines: the commands of the call, as in `Call`
+        """
         before = [*self._begin, f"policy {policy}", *lines, f"setpc {self._symbols.addresses[symbol]:x}"]
         for command, answer in zip(before, self._guest.ask(*before)):
             if isinstance(answer, Refused):
@@ -239,7 +244,10 @@ class Kernel(contextlib.AbstractContextManager["Kernel"]):
         return before
 
     def _left(self, symbol: str, policy: str, call: Call, ticks: int, counted: bool) -> tuple[_Left, Counts | None]:
-        """Return the results of a call under a policy, and its counts, or None if `counted` is false."""
+        """Return the results of a call under a policy, and its counts; None in place of the counts if `counted` is false.
+
+        Raises CallStopped if the function doesn't return within `ticks` ticks.
+        """
         self._renew(_quantum(ticks))
         guest, self._is_stopped = self._guest, False
         before = self._begin_call(symbol, policy, call.lines)
@@ -256,9 +264,11 @@ class Kernel(contextlib.AbstractContextManager["Kernel"]):
         return (result_of(registers.x[FIRST_ARGUMENT], call.result), contents, output), counts
 
     def _execute(self, ticks: int, before: Sequence[str], looks: Sequence[str]) -> tuple[Stop | None, list[Answer]]:
-        """Execute a call to a stop, or until its ticks run out. Return the stop, or None, and the answers to the looks.
+        """Execute a call until it stops, or for the given number of ticks. Return the stop and the answers to `looks`.
 
-        before: the commands that start the call; looks: commands that read the state after it
+        The stop is None if the ticks ran out.
+
+        before: the commands that start the call; looks: commands that read the state after the call
         """
         guest = self._guest
         if ticks >= MAX_STEPS * MAX_STEP_TICKS:  # most calls are short, and this takes one exchange with the machine
@@ -270,7 +280,10 @@ class Kernel(contextlib.AbstractContextManager["Kernel"]):
         return guest.go(ticks), guest.ask(*looks)
 
     def _stopped(self, what: str, stop: Stop | None, layout: Layout) -> CallStopped:
-        """Return the error for a call that didn't return. For a fault in or near an array, it names the place in the array."""
+        """Return the error for a call that didn't return. For a fault in or near an array, the error names the place in the array.
+
+        what: the name of the call in the error; stop: the stop; None if the ticks ran out; layout: the arrays of the call
+        """
         text = f"{what}: " + self._guest.describe(stop, self._symbols.place(stop.pc if stop else self._guest.pc))
         for number, array in enumerate(layout.arrays.values(), 1):
             end = array.address + array.size
@@ -294,7 +307,10 @@ def _failures_of(path: str | os.PathLike[str]) -> Iterator[None]:
 
 
 def _quantum(ticks: int) -> int:
-    """Return the ticks of a slice for a limit: if the limit is exact, its greatest divisor that is valid for a slice."""
+    """Return the number of ticks of a slice with which a call can be limited to `ticks` ticks.
+
+    Up to EXACT_TICKS, this is the greatest divisor of the limit that is valid for a slice, so that the limit is exact.
+    """
     return QUANTUM if ticks > EXACT_TICKS else next(each for each in range(QUANTUM, 0, -1) if ticks % each == 0)
 
 
@@ -314,7 +330,7 @@ def _read(path: pathlib.Path, choice: int | None, compiler: str | None) -> tuple
 
 
 def _compiled(path: pathlib.Path, choice: int, compiler: str | None) -> tuple[ExerciseAnswer, Symbols, Signatures]:
-    """Return the same as `_read`, for a source that a compiler takes."""
+    """Compile a source, and return the same as `_read`."""
     text = read_own_source(path)
     if CHOICES[choice].source == C_SOURCE and not re.search(r"\bmain\s*\(", text):
         text += _MAIN

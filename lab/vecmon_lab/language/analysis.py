@@ -25,8 +25,9 @@ from .source_flow import flow_of_source
 class Illegal:
     """An instruction that is illegal under every vector type that may be in force before it.
 
-    types: the types that may be in force; None if the instruction is illegal under every type
-    reasons: why it is illegal, in sentences
+    statement: the instruction
+    types: the vector types that may be in force; None if the instruction is illegal under every vector type
+    reasons: the reasons why the instruction is illegal, as sentences
     """
 
     statement: Statement
@@ -35,18 +36,25 @@ class Illegal:
 
 
 class Analysis:
-    """A source and the results of its analysis.
+    """An assembler source and the results of its analysis.
 
     lines: the lines of the source; plain: the same lines without comments
-    words: the words of the instructions, by address, without the instructions that have mistakes
-    program: the source's program, with all its mistakes; flow: the vector states before its instructions
-    by_line: the statements of the program, by the number of their line
+    program: the program of the source. Its mistakes include those that only the machine finds.
+    words: the machine word of each instruction, by the instruction's address; instructions with a mistake are missing
+    flow: the vector type and length that may be in force before each instruction
+    by_line: the statements of the program by the number of their line, from 1
     """
 
     def __init__(
         self, text: str, trial: Trial, files: FileReader | None = None, most_made: int = MAX_CHARACTERS
     ) -> None:
-        """most_made: the most characters that macros and repetitions may make. Raises TooMuchMade if they make more."""
+        """text: the source; trial: tries the source's instructions on a machine
+
+        files: reads the files that the source includes; None if the source may not include files
+        most_made: the largest number of characters that macros and repetitions may make
+
+        Raises TooMuchMade if macros and repetitions make more characters.
+        """
         self.lines = text.split("\n")
         self.plain = without_comments(text)[0].split("\n")
         read = with_inputs(read_source(text, files=files, most_made=most_made), text)
@@ -64,20 +72,20 @@ class Analysis:
 
     @functools.cached_property
     def called(self) -> frozenset[int]:
-        """The addresses that `jal` instructions call."""
+        """The addresses to which `jal` instructions jump as calls, which save a return address."""
         calls = (
             jump_target(address, word) for address, word in self.words.items() if word & 0xF80 and word & 0x7F == JAL
         )
         return frozenset(target for target in calls if target is not None)
 
     def state(self, statement: Statement) -> VectorState | None:
-        """Return the vector state before an instruction; None if the instruction isn't reached."""
+        """Return the vector state before an instruction; None if no path through the program reaches the instruction."""
         return self.flow.states.get(statement.address)
 
     def state_before_line(self, number: int) -> VectorState:
-        """Return the vector state at the start of a line: the state after the last instruction above. number: the line's number, from 1
+        """Return the vector state at the start of a line: the state after the last instruction above this line.
 
-        The line's own instructions aren't used, since the line may be half-typed.
+        The instructions of the line itself aren't used, since the user may still be typing them. number: the line's number, from 1
         """
         above = [each for each in self.program.statements if each.line < number]
         last = max(above, key=lambda each: each.line, default=None)
@@ -88,7 +96,8 @@ class Analysis:
     def instruction(self, statement: Statement) -> VectorInstruction | None:
         """Return the vector instruction of a statement, decoded under the vector type in force before it.
 
-        Return None if it isn't a vector instruction, or if the type is unknown or vill, or differs between the paths to it.
+        Return None if the statement isn't a vector instruction, or if the vector type is unknown or vill, or differs between the paths to
+        the statement.
         """
         state, word = self.state(statement), self.words.get(statement.address)
         if state is None or state.vtype is None or word is None or state.vtype >> 63:
@@ -113,16 +122,18 @@ class Analysis:
 
 
 def _reasons_always(word: int) -> Sequence[str]:
-    """Return the reasons why a word is illegal under every supported type and under vill; none if it is legal under one of them."""
+    """Return the reasons why a word is illegal under every supported type and under vill; empty if it is legal under one of these types."""
     reasons = _reasons(word, tuple(SUPPORTED))
     return reasons if reasons and _reasons(word, (VILL,)) else ()
 
 
 @functools.lru_cache(maxsize=1 << 14)
 def _reasons(word: int, types: tuple[int, ...], takes_first: bool = False) -> Sequence[str]:
-    """Return the reasons why a word is illegal under all of some types; none if it is legal under one of them.
+    """Return the reasons why a word is illegal under each of some vector types; empty if the word is legal under one of them.
 
-    takes_first: whether to return the reasons under the first type if the types have no reason in common
+    These are the reasons that are the same under all types.
+
+    takes_first: whether to return the reasons under the first type if no reason is the same under all types
     """
     every = list[list[str]]()
     for vtype in types:

@@ -30,7 +30,7 @@ _TAKES_LABEL = (".globl", ".global", ".weak", ".word", ".dword", ".quad", ".type
 
 
 class Item(TypedDict):
-    """A completion. textEdit: replaces the part of the word that is typed already"""
+    """A completion. textEdit: a change that replaces the part of the word that the user has typed already"""
 
     label: str
     kind: int

@@ -24,7 +24,7 @@ _FIRST_TYPE = "vsetvli t0, a0, e32, m1, ta, ma"
 
 
 class Diagnostic(TypedDict):
-    """A message at a range. code: the machine's refusal, `illegal` or `vill`"""
+    """A message at a range. code: the machine's refusal, or `illegal` or `vill`; it is missing if the message has no code"""
 
     range: Range
     severity: int
@@ -138,7 +138,7 @@ def _vill_message(requested: int | None) -> str:
 
 
 def illegal_message(illegal: Illegal) -> str:
-    """Return the reasons why an instruction is illegal, and the types under which it is, unless it always is."""
+    """Return the message about an illegal instruction: the reasons, and the vector types under which it is illegal, unless all are meant."""
     reasons = " ".join(illegal.reasons)
     within = "".join(f" ({each})" for each in illegal.statement.within[:1])
     if illegal.types is None:
@@ -152,7 +152,10 @@ def listed_types(types: Iterable[int]) -> str:
 
 
 def _cures(analysis: Analysis, illegal: Illegal, line: int) -> Iterator[Fix]:
-    """Yield a fix for an illegal instruction before which no type is set: insert an instruction that sets one. line: where to insert it"""
+    """Yield a fix if an instruction is illegal because no vector type is set before it: insert an instruction that sets a vector type.
+
+    line: the number of the line in which to insert it, from 1
+    """
     if illegal.types != frozenset([VILL]) or illegal.statement.within:
         return
     text = analysis.lines[line - 1]

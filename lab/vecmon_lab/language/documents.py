@@ -14,7 +14,9 @@ from .diagnostics import HINT, SOURCE, Finding, findings
 from .positions import Change, changed, lines_of, range_of
 
 MAX_CHARACTERS, MAX_STATEMENTS = 300_000, 5_000  # the most in a document that is checked
-MAX_MADE = 100_000  # the most characters that its macros and repetitions may make; each statement counts as 16 more
+MAX_MADE = (
+    100_000  # the most characters that a document's macros and repetitions may make; each statement counts as 16 more
+)
 UNCHECKED = "this source isn't checked"
 
 
@@ -46,7 +48,7 @@ class Document:
 
     @property
     def analysis(self) -> Analysis:
-        """The analysis of the present text; that of an empty text if the present one can't be checked."""
+        """The analysis of the present text; the analysis of an empty text if the present text can't be checked."""
         if self._analysis is None:
             text = "\n".join(self.lines)
             self._problem = self._reason_against(text)
@@ -90,11 +92,11 @@ class Document:
         return Finding({"range": span, "severity": HINT, "source": SOURCE, "message": problem.message})
 
     def _files(self) -> FileReader | None:
-        """Return a reader of the files that the source may include, which are in its folder; None if the document isn't a file."""
+        """Return a reader of the files in the document's folder, which the source may include; None if the document isn't a file."""
         return files_beside(self._path) if self._path is not None else None
 
 
 def path_of(uri: str) -> pathlib.Path | None:
-    """Return the path of a document. uri: the document's URI. None if it isn't a file of this computer"""
+    """Return the path of the file that a URI names; None if the URI doesn't name a file of this computer."""
     parts = urlsplit(uri)
     return pathlib.Path(unquote(parts.path)) if parts.scheme == "file" and parts.netloc in ("", "localhost") else None

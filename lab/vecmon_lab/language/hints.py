@@ -38,7 +38,7 @@ def hints(analysis: Analysis, first: int, last: int) -> list[InlayHint]:
 
 
 def _labels(analysis: Analysis) -> dict[int, int]:
-    """Return the addresses of the instructions that have a label, by the line of the label."""
+    """Return the address of each instruction that has a label, by the line of the label, from 1."""
     lines, found = sorted(analysis.by_line), dict[int, int]()
     for each in analysis.names:
         at = bisect.bisect_left(lines, each.line)
@@ -50,9 +50,9 @@ def _labels(analysis: Analysis) -> dict[int, int]:
 
 
 def _at_label(analysis: Analysis, address: int) -> str:
-    """Return the text about the vector type at a label; "" if it is unknown, or the same as after the instruction above the label.
+    """Return the text about the vector type at a label; "" if the type is unknown, or the same as after the instruction above the label.
 
-    address: the address of the label. The two types differ if a jump to the label comes from a place with another type.
+    The type at the label is different if a jump to the label comes from a place with another type. address: the address of the label
     """
     state = analysis.flow.states.get(address)
     if state is None or state.types is None or state.types == {VILL}:

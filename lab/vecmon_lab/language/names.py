@@ -36,7 +36,7 @@ class Occurrence:
 
 
 def occurrences(lines: Sequence[str], plain: Sequence[str]) -> list[Occurrence]:
-    """Return the places of all names that a source defines, in the source's order.
+    """Return the places where a source defines or uses the names that it defines, in the source's order.
 
     lines: the lines of the source; plain: the same lines without comments
     """
@@ -60,7 +60,10 @@ def _tokens(line: Line) -> list[Token]:
 
 
 def _names(tokens: list[Token], numeric: Counter[int]) -> Iterator[Occurrence]:
-    """Yield the names in a statement. numeric: the number of definitions of each numeric label so far, which a definition here increases"""
+    """Yield the names in a statement.
+
+    numeric: the number of definitions so far of each numeric label, by the label's number. A definition in the statement increases it.
+    """
     while len(tokens) > 1 and tokens[1].text == ":":
         label, _, *tokens = tokens
         if label.kind is Kind.NUMBER and label.text.isdecimal():
@@ -86,7 +89,7 @@ def _names(tokens: list[Token], numeric: Counter[int]) -> Iterator[Occurrence]:
 
 
 def _uses(tokens: Sequence[Token], numeric: Counter[int]) -> Iterator[Occurrence]:
-    """Yield the names that operands use."""
+    """Yield the names that operands use. tokens: the operands; numeric: as for `_names`"""
     for before, token, after in zip([None, *tokens], tokens, [*tokens[1:], None]):
         if token.kind is Kind.NUMBER and token.text[-1] in "bf" and token.text[:-1].isdecimal():
             number = int(token.text[:-1])

@@ -60,13 +60,13 @@ def highlights(analysis: Analysis, where: Position) -> list[Highlight]:
 
 
 def renamed(analysis: Analysis, where: Position, name: str) -> list[TextEdit]:
-    """Return the changes that replace the name at a position by another name. Raises LabError if it can't be renamed."""
+    """Return the changes that replace the name at a position by `name`. Raises LabError if the name can't be replaced by this one."""
     _check_new_name(analysis, name)
     return [{"range": _range(analysis, it), "newText": name} for it in _same(analysis, _renameable(analysis, where))]
 
 
 def rename_range(analysis: Analysis, where: Position) -> Range:
-    """Return the range of the name at a position. Raises LabError if it can't be renamed."""
+    """Return the range of the name at a position. Raises LabError if there is no name that can be renamed."""
     found = occurrence_at(analysis, _renameable(analysis, where))
     assert found is not None
     return _range(analysis, found)
@@ -84,7 +84,7 @@ def symbols(analysis: Analysis) -> list[Symbol]:
 
 
 def _kind(analysis: Analysis, symbol: Occurrence) -> tuple[int, str]:
-    """Return the kind of a symbol in the protocol, and a detail: its address, or a word for its kind."""
+    """Return the kind of a symbol in the protocol, and a detail for the outline: the symbol's address, a word for its kind, or ""."""
     if symbol.defines == "macro":
         return _METHOD, "macro"
     address = analysis.program.labels.get(symbol.name)

@@ -54,7 +54,7 @@ class NoRecorder:
 class Desk:
     """A seat, its machine and the exercises.
 
-    no_c, refusal_of_c: the reason why sources in C aren't compiled, and the message before it
+    no_c: the reason why sources in C aren't compiled; refusal_of_c: the start of a message, before this reason
     stopper: the noun that messages have for the part of the lab that stops a program, such as `page`
     own_slices: whether the page offers to grant slices to a running program
     limit: the approximate number of ticks that a program may run without a stop
@@ -73,10 +73,10 @@ class Desk:
         limit: int = Settings.limit,
         source: SeatSource | None = None,
     ) -> None:
-        """texts: saves the seat's source and its versions
+        """program: vecmon; session: a session on the seat's machine; texts: saves the seat's source and its versions
 
-        exercises: by name; starts: the sources with which one can start each exercise
-        limit: as the attribute; source: the seat's source; None for one as in a class
+        exercises: the exercises by name; starts: the sources with which one can start each exercise, by the exercise's name
+        limit: the value of the attribute `limit`; source: the seat's source; None to make a source as a class has it
         """
         self.program, self.texts, self.limit = program, texts, limit
         self.exercises = Exercises(exercises, starts)
@@ -103,7 +103,10 @@ class Desk:
         return self._sent.news(self.student.view(self._more()), [self.seat])
 
     def respond(self, text: str) -> Response:
-        """Execute a request; return the response, with the changes. text: the request in JSON"""
+        """Execute a request; return the response. It has the request's result or error, and the changes for the page.
+
+        text: the request in JSON
+        """
         number, done = 0, Answers()
         message: JsonObject = {}
         result: Result
@@ -126,7 +129,7 @@ class Desk:
     def lesson(self, ticket: str) -> str:
         """Return a lesson in HTML. Raises LabError if there is none.
 
-        ticket: of a checked answer, for a lesson about it; or an exercise's name, for the lesson before that exercise
+        ticket: the ticket of a checked answer, for a lesson about this answer; or the name of an exercise, for the lesson before it
         """
         if ticket in self.exercises.by_name and "lesson" in self.exercises.by_name[ticket].files:
             return lesson_before(self.program, self.exercises.by_name[ticket])
@@ -148,7 +151,7 @@ class Desk:
     def lines(self, request: LinesRequest, done: Answers) -> Answers:
         """Execute the lines of a request; return the answers to its read-only lines. Raises LabError.
 
-        done: receives the answers to the other lines, also if an error is raised
+        done: receives the answers to the lines that aren't read-only, also if an error is raised
         """
         return self.run(self.machine.lines(self.seat, request, done))
 
@@ -172,7 +175,12 @@ class Desk:
             return returned
 
     def execute(self, request: Request, done: Answers) -> Result:
-        """Execute a request of a kind that only some desks accept. Raises BadRequest for other kinds."""
+        """Execute a request of a kind that this class doesn't accept; return its result. Raises BadRequest.
+
+        This method always raises BadRequest. A subclass overrides it to accept more kinds of requests than those that `respond` executes.
+
+        done: receives the answers to executed lines that aren't read-only
+        """
         raise BadRequest("this page doesn't do that")
 
     def names_of_images(self) -> list[str]:
@@ -196,7 +204,7 @@ class Desk:
         }
 
     def _execute(self, request: Request, done: Answers) -> Result:
-        """Execute a request; return its result. Raises BadRequest. done: receives the answers to lines that aren't read-only"""
+        """Execute a request; return its result. Raises BadRequest. done: receives the answers to executed lines that aren't read-only"""
         match request:
             case LinesRequest():
                 return {"do": done, "look": self.lines(request, done)}

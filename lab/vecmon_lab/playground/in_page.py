@@ -58,7 +58,7 @@ class PageProgram:
     """The page's vecmon.wasm. Images are files that the worker has by their paths."""
 
     def start(self, arguments: Sequence[str], images: Mapping[str, pathlib.Path]) -> Process:
-        """Start an instance. arguments: of the program; images: ignored, since the arguments have their paths"""
+        """Start an instance. arguments: the program's arguments; images: ignored, since the arguments have the paths of the images"""
         return PageProcess(arguments)
 
     def __str__(self) -> str:

@@ -7,7 +7,7 @@ from collections.abc import Callable, Iterator, Mapping, Sequence
 from ..classes.core.text_store import TextStore
 
 Changed = Callable[[str, str | None, float], object]
-"""Is given a name with its text, or None where it is removed, and the time in seconds since 1970."""
+"""Is called for each changed text, with its name, its present text (None if it was removed), and the time in seconds since 1970."""
 
 
 class KeptTexts:
@@ -16,9 +16,9 @@ class KeptTexts:
     def __init__(
         self, texts: Mapping[str, Sequence[object]] = {}, changed: Changed = lambda name, text, when: None
     ) -> None:
-        """texts: a list of the text and its time, by name; entries of another form are ignored
+        """texts: the saved texts: by name, a list of a text and the time when it was saved; entries of another form are ignored
 
-        changed: is called with the name, text and time of each changed text; the text is None if it was removed
+        changed: is called when a text changes
         """
         self._changed = changed
         self._texts = dict[str, tuple[str, float]]()

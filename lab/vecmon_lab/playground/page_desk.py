@@ -193,7 +193,10 @@ class PageDesk(Desk):
         return name
 
     def _replace(self, heir: Session, script: bytes) -> None:
-        """Continue with another session, after it has executed a script. If this raises LabError, the first session stays."""
+        """Continue with another session, after it has executed a script. If this raises LabError, the desk continues with its old session.
+
+        heir: the other session; script: the script that it executes first
+        """
         try:
             for _ in heir.do_script(script):
                 pass

@@ -89,11 +89,10 @@ class PageSource(SeatSource):
     def join(self, other: TextStore, exercises: Sequence[str]) -> None:
         """Take up the sources and versions of another tab.
 
-        other: the texts that this tab has changed since this page opened
-        exercises: the names of all exercises
+        The other tab's versions are added to those of this page. A source of the other tab becomes a version if this page has the same work
+        open. Otherwise, it replaces this page's source of the work, and the replaced source becomes a version.
 
-        Its versions are added. Its source becomes a version if this page has the same work open. Otherwise, it replaces this page's source
-        of the work, which becomes a version.
+        other: the texts that the other tab has changed since this page opened; exercises: the names of all exercises
         """
         theirs = PageSource(self._name, other)
         known = {(version["exercise"], self.version(version["number"])) for version in self.versions}

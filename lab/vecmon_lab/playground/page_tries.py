@@ -18,7 +18,7 @@ class PageTries:
         self._seat, self._texts, self._exercises, self._lost = seat, texts, exercises, lost
 
     def restore(self) -> None:
-        """Take up the saved tries. A missing or damaged try counts as a try in which no case passes."""
+        """Take up the saved tries. A damaged try, or one that is missing between others, counts as a try in which no case passes."""
         for name in self._exercises.by_name:
             files = {file for file, _ in self._texts.files(f"{ANSWERS}/{self._seat}.{name}.*.json")}
             number = next((number for number in range(MAX_TRIES, 0, -1) if self._file(name, number) in files), 0)
@@ -42,9 +42,9 @@ class PageTries:
             self._texts.write_text(self._file(name, number), json.dumps(done))
 
     def join(self, name: str, other: TextStore) -> None:
-        """Add another tab's tries at an exercise, unless this page has them, and sort all of them by time.
+        """Add the tries at an exercise that another tab has saved and this page doesn't have, and sort all tries by time.
 
-        Damaged ones are set aside. other: the texts that the other tab has changed
+        Damaged tries of the other tab are set aside. name: the exercise; other: the texts that the other tab has changed
         """
         own = set(self._saved(self._texts, name).values())
         new = list[Try]()

@@ -18,9 +18,9 @@ MAX_SLICES = 1000  # largest number of slices that one line grants
 SHORT = 1 << 20  # ticks for which the count is first assumed to be the number of ticks, without counting shorter parts
 
 Reach = Callable[[int, int], Generator[None, None, PrivateMachine]]
-"""Makes a machine that is at a place: a leg and a number of its instructions."""
+"""Moves a private machine to a place, and returns it. The arguments are the index of a leg, and a number of the leg's instructions."""
 Open = Callable[[int], PrivateMachine]
-"""Makes a new machine that can go to the start of a leg."""
+"""Returns a new private machine that can go on to the start of a leg. The argument is the index of the leg."""
 
 
 def count_to_stop(legs: Sequence[Leg], place: int, most: int, quantum: int, reach: Reach) -> Parts:
@@ -28,7 +28,7 @@ def count_to_stop(legs: Sequence[Leg], place: int, most: int, quantum: int, reac
 
     If no breakpoint was set, the search starts where the last slice would start if each instruction took one tick.
 
-    legs, place: all legs, and the index of this one
+    legs, place: all legs, and the index of the leg to count
     most: the largest number of instructions to count
     quantum: the ticks of a slice
     reach: moves the private machine to a place: the index of a leg, and an offset in instructions
@@ -109,7 +109,7 @@ def count_to_ticks(legs: Sequence[Leg], place: int, most: int, quantum: int, rea
     Each instruction takes one tick, except vector loads and stores. If the leg has such instructions, the instructions of its first
     few ticks are counted, and then those of ever more ticks. Each count is searched near a prediction from the previous rate.
 
-    legs, place: all legs, and the index of this one
+    legs, place: all legs, and the index of the leg to count
     most: the largest number of instructions to count
     quantum: the ticks of a slice
     reach: moves the private machine to a leg and an offset
@@ -165,7 +165,7 @@ def _after(
 def _find(place: int, expected: int, window: int, reach: Reach, wanted: Signature) -> Generator[None, None, int | None]:
     """Return the count after which the registers are `wanted`; None if there is none.
 
-    The counts within `window` instructions of the expected one are tried. If several fit, the one nearest to it is returned.
+    The counts that differ from `expected` by at most `window` are tried. If several fit, the one nearest to `expected` is returned.
     """
     first, found = max(0, expected - window), list[int]()
     try:

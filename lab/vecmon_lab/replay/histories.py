@@ -46,7 +46,7 @@ class Histories:
             history.close()
 
     def set_up(self, is_on: bool) -> None:
-        """Note whether the lines that follow are those of a checkpoint (`is_on`)."""
+        """Note that lines of a checkpoint follow (`is_on` is true), or that they have ended."""
         for history in self.users.values():
             history.run.legs.set_up(is_on)
 
@@ -63,12 +63,12 @@ class Shares:
         self._last: str | None = DIGITS[-1]  # the user of the last turn; None if unknown
 
     def of(self, line: str, granted: Granted, running: set[str]) -> dict[str, int | None]:
-        """Return the slices of an operator's line by user; None if a user's number of slices is unknown.
+        """Return the number of slices that an operator's line grants to each user, by the user's digit.
 
-        The numbers are unknown if several programs ran and one of them stopped, or if the user of the last turn is unknown.
+        A number is None if it is unknown: if several programs ran and one of them stopped, or if the user of the last turn is unknown.
 
         granted: the answer to the line
-        running: the users whose programs ran before the line
+        running: the digits of the users whose programs ran before the line
         """
         words = words_of(line)
         if not granted.slices or not running:

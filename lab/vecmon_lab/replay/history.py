@@ -17,7 +17,7 @@ from .watches import Watch
 NO_PROGRAM = "there is no program to go back in"
 
 IsDue = Callable[[], bool]
-"""Whether a call ends before its result: a user interrupts it, or other work comes first."""
+"""Returns whether a call should end without its result, since a user interrupts it, or other work comes first."""
 Parts = Generator[None, None, None]
 """Work in parts: a caller may pause, or drop it, after each one."""
 Result = TypeVar("Result")
@@ -49,10 +49,10 @@ class Halts:
 
 @dataclass(frozen=True)
 class Found(Generic[OfState]):
-    """The result of a backward search.
+    """The result of a backward search for a halt.
 
     state: the state at the halt; None if there is no halt
-    watch: the watched memory of the halt; None if the halt is a breakpoint
+    watch: the watched memory that the halting instruction accesses or changes; None if the halt is at a breakpoint
     """
 
     state: OfState | None
@@ -62,7 +62,8 @@ class Found(Generic[OfState]):
 class Run(Protocol[OfState]):
     """The instructions that a program has executed since it was loaded, in stretches.
 
-    A place is the index of a stretch, and an offset: a number of its instructions.
+    A place in the run is the index of a stretch and an offset, which is a number of the stretch's instructions. In the methods, `place` is only
+    the index of the stretch.
 
     limit: the largest number of instructions of a way back
     too_far: the text of the error for a longer way back
@@ -86,23 +87,26 @@ class Run(Protocol[OfState]):
         """The finished part of the current work in percent."""
 
     def count(self, place: int, most: int) -> Parts:
-        """Set the count of a stretch. It may stay None if it is above `most`.
+        """Count the instructions of a stretch, and set its `count`, which may stay None if there are more than `most`.
 
-        Raises LabError and Interrupted, as the next methods do.
+        Raises LabError and Interrupted, and so do `state`, `first_halt` and `last_halt`.
         """
 
     def state(self, place: int, offset: int) -> Generator[None, None, OfState]:
         """Return the state after `offset` instructions of a stretch."""
 
     def first_halt(self, place: int, offset: int, halts: Halts) -> Generator[None, None, int | None]:
-        """Return the first offset above this one where the program halts before its next instruction; None if there is none."""
+        """Return the first offset of a stretch above `offset` at which the program halts; None if there is none.
+
+        The program halts before the instruction at this offset executes.
+        """
 
     def last_halt(self, place: int, halts: Halts) -> Generator[None, None, tuple[int, Watch | None] | None]:
-        """Return the last offset at which the program halts, and the watched memory; None if there is no halt.
+        """Return the last offset of a stretch at which the program halts, and the watched memory; None if there is no halt.
 
-        The offset is that of a breakpoint, or the one after an instruction that accesses or changes watched memory. The watched memory
-        is None for a breakpoint. A breakpoint at the end of the stretch doesn't count: the program is there now, or the next stretch
-        starts there.
+        For a breakpoint, this is the offset of the instruction that has the breakpoint, with None for the watched memory. For an access to
+        watched memory, it is the offset after the instruction that accesses or changes the memory. A breakpoint at the end of the stretch
+        doesn't count, since the program is there now, or the next stretch starts there.
         """
 
     def close(self) -> None:
@@ -125,7 +129,7 @@ class History(Generic[State]):
 
     @property
     def end(self) -> int | None:
-        """The number of instructions up to the present; None until they are counted."""
+        """The number of instructions of the run up to the present; None until all of them are counted."""
         counts = [stretch.count for stretch in self._run.stretches]
         return sum(count for count in counts if count is not None) if None not in counts else None
 
@@ -136,16 +140,16 @@ class History(Generic[State]):
     def at(self, count: int, is_due: IsDue) -> State | None:
         """Return the state after `count` instructions; None if `is_due` ends the work before.
 
-        A negative number counts from the end. A number outside 0 to `end` gives the first or the last state. Lines that set registers
-        or memory after this number of instructions are executed. Raises NoWayBack, and errors of a session.
+        A negative number counts from the end. A number outside 0 to `end` gives the first or the last state. If lines set registers or memory
+        between these instructions and the next one, the state is the one after these lines. Raises NoWayBack, and errors of a session.
         """
         return self._drive(("at", count), partial(self._at, count), is_due)
 
     def next_halt(self, count: int, halts: Halts, is_due: IsDue) -> int | None:
         """Return the next number of instructions above `count` at which the program halts, or the end.
 
-        The program halts before the instruction that has a breakpoint, or accesses or changes watched memory. Returns None if
-        `is_due` ends the work before. The last result is returned again at once. Raises as `at` does.
+        The program halts before an instruction that has a breakpoint, and before one that accesses or changes watched memory. Returns None
+        if `is_due` ends the work before. A call with the arguments of the last call returns the last result at once. Raises as `at` does.
         """
         if self._found and self._found[0] == (count, halts, self._run.number, self.end):
             return self._found[1]
@@ -157,8 +161,8 @@ class History(Generic[State]):
     def last_halt(self, halts: Halts, is_due: IsDue) -> Found[State] | None:
         """Return the last state before the present at which the program halts.
 
-        It is at a breakpoint, or after an instruction that accesses or changes watched memory. Returns None if `is_due` ends the work
-        before. Raises as `at` does.
+        This state is at a breakpoint, or after an instruction that accesses or changes watched memory. Returns None if `is_due` ends the
+        work before. Raises as `at` does.
         """
         return self._drive(("last", halts), partial(self._last_halt, halts), is_due)
 
@@ -174,7 +178,7 @@ class History(Generic[State]):
         self._run.close()
 
     def _drive(self, wanted: object, work: Callable[[], Generator[None, None, Result]], is_due: IsDue) -> Result | None:
-        """Continue the current work until it is due; return its result, or None if it isn't finished.
+        """Continue the current work until it is finished, or until `is_due` returns true. Return the work's result; None if it isn't finished.
 
         wanted: identifies the work; a different value than before starts the work anew
         work: starts the work
@@ -235,7 +239,7 @@ class History(Generic[State]):
         return (yield from self._run.state(place, offset))
 
     def _find(self, count: int) -> tuple[int, int]:
-        """Return the last place (stretch and offset) after a number of instructions, which are counted."""
+        """Return the last place, as a stretch and an offset, before which `count` instructions have executed. All stretches are counted."""
         found, start = (0, 0), 0
         for place, stretch in enumerate(self._run.stretches):
             if start > count:
@@ -244,7 +248,7 @@ class History(Generic[State]):
         return found
 
     def _find_from_end(self, number: int) -> Generator[None, None, tuple[int, int]]:
-        """Return the last place that has this number of instructions up to the present, or else the first place."""
+        """Return the last place that is `number` instructions before the present; the first place if there are fewer instructions."""
         passed = 0
         for place in reversed(range(len(self._run.stretches))):
             count = yield from self._count(place, self._run.limit)

@@ -15,13 +15,13 @@ MAX_TICKS = 256  # of one instruction: a load or store of 256 elements (e8, m8) 
 class Interval:
     """Consecutive instructions, between which no line wrote registers or memory.
 
-    start: the size in bytes of the part of the script that brings a machine to the first instruction
+    start: the size in bytes of the start of the script that brings a machine to the first instruction
     count: the number of instructions; None if slices executed them and they aren't counted yet
-    ticks: the ticks of these slices, an upper bound of the ticks that the instructions take
-    breaks: the user's breakpoints at the start, and also during the slices
+    ticks: the ticks of the slices that executed the instructions, which is an upper bound of the ticks that the instructions take
+    breaks: the addresses of the user's breakpoints at the start, which are also those during the slices
     has_stopped: whether the program stopped by itself after the last instruction
     continues: whether the interval follows the one before it, and no line wrote registers or memory between them
-    maps: the number of `map` commands that the user had made before
+    maps: the number of `map` commands of the user before the interval
     """
 
     start: int
@@ -41,7 +41,7 @@ class Interval:
 class Intervals:
     """The intervals of a user since the user's machine started, derived from the lines of a script and their answers.
 
-    size: the number of bytes of the script that were followed
+    size: the number of bytes of the script that `follow` has taken up
     number: the number of times that the user's machine started
     """
 
@@ -91,7 +91,10 @@ class Intervals:
         self._begin(None).continues = len(self.intervals) > 1
 
     def join(self, size: int) -> None:
-        """Join the interval that starts after `size` bytes of the script with the one before, if slices executed both or neither."""
+        """Join an interval with the previous interval that it continues, if slices executed both of them or neither.
+
+        size: the number of bytes of the script before the interval
+        """
         place = next((number for number, it in enumerate(self.intervals) if it.start == size), 0)
         second, first = self.intervals[place], self.intervals[place - 1]
         if place == 0 or not second.continues or (first.count is None) != (second.count is None):
@@ -105,7 +108,7 @@ class Intervals:
     def cut(self, place: int, intervals: Iterable[Interval], size: int, breaks: Iterable[int]) -> None:
         """Replace the intervals from index `place` on, because the script was replaced by one of `size` bytes.
 
-        intervals: the new ones; breaks: the user's breakpoints at the end of the new script
+        intervals: the new intervals; breaks: the addresses of the user's breakpoints at the end of the new script
         """
         self.intervals[place:] = intervals
         self.size, self._breaks, self._is_written, self._is_running = size, frozenset(breaks), False, False
@@ -154,7 +157,10 @@ class Intervals:
         return self.intervals[-1] if self.intervals and not self._is_written else None
 
     def _begin(self, count: int | None) -> Interval:
-        """Start an interval. It replaces the last one if that has no instruction."""
+        """Start an interval, and return it. It replaces the last interval if that has no instructions.
+
+        count: the interval's first number of instructions; None for an interval whose instructions slices execute
+        """
         if self.intervals and self.intervals[-1].work == 0:
             self.intervals.pop()
         maps = len(self._users[self._user].maps)

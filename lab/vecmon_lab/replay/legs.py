@@ -7,7 +7,7 @@ from ..guest.guest import SET_UP_ADDRESS
 from ..machine.answers import Output, Position, Refused, Stop, read
 from ..machine.lines import words_of
 
-TRYING = " "  # ends a `step` line that may stop
+TRYING = " "  # the end of a `step` line during which the program may stop
 # Kinds of stops at which the instruction was executed, and may have changed something.
 TRIED = ("fault", "ebreak", "exit")
 _WRITES = ("set", "vset", "setpc", "poke", "asm", "map", "policy")
@@ -17,13 +17,13 @@ _WRITES = ("set", "vset", "setpc", "poke", "asm", "map", "policy")
 class Leg:
     """Lines, and the consecutive instructions that the program executed after them.
 
-    lines: with the user's digit. They bring a machine from the end of the leg before to the start of this one. A `step` line among
-    them that may stop ends with a space.
+    lines: the lines, with the user's digit, that bring a machine from the end of the previous leg to the start of this leg. A `step` line
+        during which the program may stop ends with a space (TRYING).
     count: the number of instructions; None if the lines don't show it and it isn't counted yet
-    most: an upper bound for a count that is unknown: the granted steps or ticks
-    ticks: the ticks that were granted to a program that ran; None for steps, or if they are unknown
-    breaks: the user's breakpoints during the leg
-    stop: the program's stop at the end of the leg; None if a line stopped it, or if it was only stepped
+    most: an upper bound of an unknown count: the number of granted steps or ticks
+    ticks: the number of ticks that were granted to the program while it ran; None if it was only stepped, or if the number is unknown
+    breaks: the addresses of the user's breakpoints during the leg
+    stop: the program's stop at the end of the leg; None if a line stopped the program, or if it was only stepped
     """
 
     lines: list[str] = field(default_factory=list)
@@ -64,14 +64,14 @@ class Legs:
         self.number, self.is_running, self.written = 0, False, 0
         self.digit, self._quantum = digit, quantum
         self._breaks = frozenset[int]()
-        # Whether lines are those of a checkpoint; the program's instructions don't include theirs.
+        # Whether the lines are those of a checkpoint. Instructions that these lines step don't count as instructions of the program.
         self._has_set_up = False
         self._is_preparing = (
             False  # whether the program counter is at the instruction that prepares a case of an exercise
         )
 
     def set_up(self, is_on: bool) -> None:
-        """Note whether the lines that follow are those of a checkpoint: they precede instruction 0."""
+        """Note that lines of a checkpoint follow (`is_on` is true), or that they have ended. They come before instruction 0."""
         self._has_set_up = is_on
 
     def follow(self, line: str, answer: Sequence[str]) -> None:
@@ -110,9 +110,9 @@ class Legs:
                 self._add_line(line)
 
     def grant(self, slices: int | None, stop: Stop | None) -> None:
-        """Take up slices of the user's program, if it runs.
+        """Take up slices that were granted to the user's program. Do nothing if the program doesn't run.
 
-        slices: their number; None if it is unknown. stop: the stop that ended them; None if there was none
+        slices: the number of slices; None if it is unknown. stop: the stop that ended the last slice; None if the program still runs
         """
         if not self.is_running:
             return
@@ -130,7 +130,7 @@ class Legs:
         self._is_preparing = False
 
     def _last(self) -> Leg:
-        """Return the leg to which instructions are added: a new one if the last one's count is unknown, or if a stop ended it."""
+        """Return the leg to which instructions are added: the last one, or a new one if the last one has an unknown count or a stop."""
         last = self.legs[-1]
         if last.count is None or last.stop:
             self.legs.append(Leg())

@@ -116,13 +116,16 @@ class OwnLines:
         return Instant(count, machine.guest, bytes(machine.output), stop, offset == 0 and _writes(leg))
 
     def first_halt(self, place: int, offset: int, halts: Halts) -> Generator[None, None, int | None]:
-        """Return the first offset above this one at which the program is at a breakpoint; None if there is none."""
+        """Return the first offset of a leg above `offset` at which the program is at a breakpoint; None if there is none.
+
+        Raises NoWayBack if memory is watched.
+        """
         return (yield from self._first_break(place, offset, self.legs.legs[place].count or 0, halts))
 
     def last_halt(self, place: int, halts: Halts) -> Generator[None, None, tuple[int, Watch | None] | None]:
-        """Return the last offset at which the program is at a breakpoint; None if there is none.
+        """Return the last offset of a leg at which the program is at a breakpoint, and None for watched memory; None if there is none.
 
-        The leg is searched in windows of instructions, the last window first.
+        The leg is searched in windows of instructions, the last window first. Raises NoWayBack if memory is watched.
         """
         end, size = (self.legs.legs[place].count or 0) - 1, FIRST_WINDOW
         while end >= 0:
@@ -177,7 +180,7 @@ class OwnLines:
         self._machine = None
 
     def _open(self, leg: int, offset: int = 0) -> PrivateMachine:
-        """Return a new private machine, at the last saved state at or before a place, or at the start."""
+        """Return a new private machine in the last saved state at or before a place, or at the start if there is no such state."""
         machine = PrivateMachine(self._opening(), self.legs, self.saved)
         if state := self.saved.before(leg, offset):
             machine.begin(state)

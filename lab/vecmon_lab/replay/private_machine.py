@@ -65,15 +65,16 @@ class PrivateMachine:
         return Guest(self.session, int(self.digit))
 
     def is_before(self, leg: int, offset: int) -> bool:
-        """Return whether the machine can go on to a place, because it hasn't passed this place."""
+        """Return whether the machine can go on to a place, because it hasn't passed this place. leg, offset: as for `go_to`"""
         here = self.place
         return (
             (here.leg, here.offset) < (leg, offset) or (here.leg, here.offset) == (leg, offset) and not here.has_tried
         )
 
     def go_to(self, leg: int, offset: int, is_trying: bool = False) -> Parts:
-        """Go on to a place. Raises ReplayDiffers if the program stops before.
+        """Go on to a place. Raises ReplayDiffers if the program stops before the place.
 
+        leg: the index of the place's leg; offset: the number of the leg's instructions before the place
         is_trying: whether to execute the instruction at which the leg stops as well
         """
         while (self.place.leg, self.place.offset) != (leg, offset):
@@ -114,9 +115,9 @@ class PrivateMachine:
         return sum(leg.count or 0 for leg in self._legs[: max(0, self.place.leg)]) + self.place.offset
 
     def save_if_due(self, gap: int | None = None) -> None:
-        """Save the present state if it is far enough after the last saved state before it.
+        """Save the present state if enough instructions have executed since the last saved state before it.
 
-        gap: the number of instructions that is far enough; None for the usual spacing of states
+        gap: the number of instructions that is enough; None for the usual spacing of saved states
         """
         position = self.position
         is_due = self._saved.is_due(position) if gap is None else self._saved.gap_before(position) >= gap

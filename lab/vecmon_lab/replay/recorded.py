@@ -54,8 +54,8 @@ class Search:
     def first(self, ticks: int) -> tuple[Counts, list[Halt], int]:
         """Run a number of ticks, and find halts.
 
-        Returns the run's counts, its first halt and perhaps others (an empty list if there are none), and the number of bytes that the
-        program wrote.
+        Returns the run's counts, a list that has the run's first halt and perhaps others (empty if there is no halt), and the number of bytes
+        that the program wrote.
         """
         done, halts, written = self.first_change(ticks)
         if self._needs_log(done):
@@ -73,9 +73,9 @@ class Search:
     def length(self, ticks: int, last: int) -> int:
         """Return the number of instructions of a run, up to a stop or to a breakpoint after its start.
 
-        ticks: the length of the run
-        last: the breakpoint that ended the run is in this number of last ticks; if the run passes a breakpoint earlier, all of the run is
-            searched
+        ticks: the length of the run in ticks
+        last: the number of ticks at the end of the run in which the breakpoint that ended the run is searched. If the run passes a breakpoint
+            before these ticks, the whole run is searched.
         """
         done = self._run(ticks, [], _nothing)[0]
         is_over = done.ticks > ticks or isinstance(done.end, Stop) and done.end.kind == "exit"
@@ -91,7 +91,7 @@ class Search:
 
         Each list is for one window of instructions. It has the window's last halt and perhaps others, or is empty if there is no halt.
 
-        ticks: at most the ticks that these instructions take
+        ticks: at most the number of ticks that these instructions take; a run that doesn't reach all of them is repeated with more ticks
         """
         ticks, done, changes = self._covering(ticks, count)
         minimum = changes[-1].number if changes else 1
@@ -169,7 +169,7 @@ class Search:
         return halts
 
     def _last_of_changes(self, file: BinaryIO, last: int) -> list[Halt]:
-        """Return the last changes in a file of changes up to instruction `last`; only lines near this instruction are parsed."""
+        """Return the last halts in a file of changes up to instruction `last`. Only lines near this instruction are parsed."""
         kept, is_over = deque[bytes]([b""], 3), False
         while block := file.read(BLOCK_BYTES):
             if not is_over:
@@ -181,7 +181,7 @@ class Search:
         return _ends(halt for halt in self._halts_of_changes(whole) if halt.number <= last)
 
     def _halts_of_changes(self, lines: Iterable[bytes]) -> Iterator[Halt]:
-        """Yield a halt for each instruction in lines of changes. It has the first place that the instruction changes."""
+        """Yield a halt for each instruction in lines of changes, with the watched memory that the instruction changes first."""
         changes = itertools.takewhile(lambda line: line[:1].isdigit(), lines)
         for number, (line, *_) in itertools.groupby(changes, lambda line: int(line.partition(b" ")[0])):
             _, ticks, _, place, *_ = line.split()
@@ -204,5 +204,5 @@ def _nothing(file: BinaryIO) -> list[Halt]:
 
 
 def _ends(halts: Iterator[Halt]) -> list[Halt]:
-    """Return the first halt and the last two; two successive halts may be of one instruction."""
+    """Return the first halt and the last two halts, since two successive halts may be of the same instruction."""
     return [*itertools.islice(halts, 1), *deque(halts, 2)]

@@ -19,14 +19,14 @@ PARTS = 16
 class Replayed:
     """Executes an interval again from its start.
 
-    session: at first at the start of the interval, without breakpoints; then after the instructions that `execute` has executed
-    saved: the saved states up to this place
+    session: a session without breakpoints, at first at the start of the interval, then after the instructions that `execute` has executed
+    saved: the saved states up to the place that the session has reached
     dropped: the saved states that `execute` has dropped to make room for new ones
     """
 
     def __init__(self, session: Session, digit: int, saved: SavedStates, position: int) -> None:
-        """session: at the start of the interval; digit: the user's number
-        saved: the saved states before the interval; position: the position of its start
+        """session: a session at the start of the interval, without breakpoints; digit: the user's digit
+        saved: the saved states before the interval; position: the position of the interval's start (see `SavedState`)
         """
         self.session, self.saved, self.dropped = session, saved, list[SavedState]()
         self._digit, self._position = digit, position
@@ -74,9 +74,9 @@ class Replayed:
             self._step(min(number // PARTS, number - done), control)
 
     def _step_at_once(self, number: int, at_once: int, control: Control) -> bool:
-        """Execute instructions, `at_once` in one line.
+        """Execute `number` instructions, at most `at_once` of them with one line.
 
-        Returns whether the output buffer had room for each system call. If it hadn't, the session can't be used any more.
+        Returns whether the output buffer had room for the output of each system call. If it had no room, the session can't be used any more.
         """
         commands = [*stepping(number, at_once), "out"]
         lines = "".join(f"{self._digit} {command}\n" for command in commands).encode("ascii")

@@ -22,13 +22,14 @@ Opening = Callable[[], Session]
 
 @dataclass
 class SavedState:
-    """A user's state at a place of a run.
+    """A user's state at some point of a run.
 
-    position: a number that rises as the run goes on, such as the number of its instructions
-    size: the size in bytes of the part of the session's script that brings a machine into this state
-    start: this part of the script, as a `ScriptStart`
-    place: the place in the run's legs, if the run has legs
-    output: the program's output up to the place, if the run has legs
+    position: a number that rises as the run goes on, such as the number of instructions that have executed
+    size: the size in bytes of the start of the session's script that brings a machine into this state
+    snapshot: the registers, the memory and the rest of the state
+    start: the start of the session's script that brings a machine into this state, as a `ScriptStart`
+    place: if the run has legs, the state's place in the legs
+    output: if the run has legs, the program's output up to the state
     """
 
     position: int
@@ -73,9 +74,9 @@ class SavedStates:
         self._fresh: tuple[User, Mapping[int, bytes]] | None = None
 
     def is_due(self, position: int, pages: int = 0) -> bool:
-        """Return whether a new state should be saved at a position: whether it is far enough after the saved state before it.
+        """Return whether a position is so far after the last saved position before it that a state should be saved there.
 
-        pages: the number of the user's pages; with more pages, states are further apart
+        pages: the number of the user's pages; with more pages, saved states are further apart
         """
         return self.gap_before(position) >= spacing(pages)
 
@@ -89,11 +90,11 @@ class SavedStates:
     ) -> SavedState | None:
         """Save the state of a guest, whose program is stopped, and whose output was taken.
 
-        position: one at which no state is saved yet
-        user: the image and the pages
-        place, output: for the fields of the saved state
+        position: the position of the state, at which no state is saved yet
+        user: the user's image and pages
+        place, output: the values of these fields of the saved state
 
-        Returns the saved state that was dropped to make room, which may be the new one; None if none was dropped.
+        Returns the saved state that was dropped to make room, which may be the new state; None if no state was dropped.
         """
         number = bisect.bisect(self.states, position, key=lambda state: state.position)
         before = self.states[number - 1].snapshot if self.states else None
@@ -115,22 +116,25 @@ class SavedStates:
         return sum(pages.values()) > self._max_bytes
 
     def until(self, size: int) -> "SavedStates":
-        """Return a new collection of the states up to this number of bytes of the script."""
+        """Return a new collection with the states that are reached by at most the first `size` bytes of the script."""
         states = SavedStates(self._opening, self._max_states, self._max_bytes)
         states.states, states._fresh = [state for state in self.states if state.size <= size], self._fresh
         return states
 
     def at(self, size: int) -> SavedState | None:
-        """Return the state after this number of bytes of the script; None if there is none."""
+        """Return the saved state that is reached by the first `size` bytes of the script; None if there is none."""
         return next((state for state in self.states if state.size == size), None)
 
     def before(self, leg: int, offset: int) -> SavedState | None:
-        """Return the last state, at or before a place in legs, that lines can restore; None if there is none."""
+        """Return the last saved state that is at or before a place in the legs and that lines can restore; None if there is none.
+
+        leg: the index of the place's leg; offset: the number of the leg's instructions before the place
+        """
         earlier = (state for state in reversed(self.states) if (state.place.leg, state.place.offset) <= (leg, offset))
         return next((state for state in earlier if state.lines() is not None), None)
 
     def starts(self) -> Sequence[ScriptStart]:
-        """Return the parts of the script up to the saved states, the shortest first."""
+        """Return the start of the script for each saved state, the shortest one first."""
         return [state.start for state in self.states]
 
     def _fresh_memory(self, user: User) -> Mapping[int, bytes]:
@@ -146,9 +150,12 @@ def spacing(pages: int) -> int:
 
 
 def sparsest(positions: Sequence[int], here: int | None = None) -> int:
-    """Return the index of the position to drop: the one that leaves the smallest gap in relation to its distance from `here`.
+    """Return the index of the position to drop.
 
-    The last position is never dropped. here: None for the last position
+    A position leaves a gap between its neighbours if it is dropped. The position is dropped whose gap is smallest in relation to the gap's
+    distance from `here`. The last position is never dropped.
+
+    positions: in rising order; here: the position near which most positions are preserved; None for the last position
     """
     last, before = positions[-1] if here is None else here, [0, *positions]
     ends = [(before[at], positions[at + 1]) for at in range(len(positions) - 1)]

@@ -47,7 +47,7 @@ class Timeline:
     def go(self, is_interrupted: Callable[[], bool]) -> Stop | None:
         """Run the program to a stop, or to an instruction that accesses or changes watched memory.
 
-        Returns the stop; None if it is interrupted.
+        Returns the stop; None if the run is interrupted before it stops.
         """
         breaks = self._breaks()
         for _ in range(FEW if self.watches else 1):  # gdb steps past a breakpoint in this way
@@ -86,9 +86,9 @@ class Timeline:
             return None
 
     def back(self, number: int = 1, is_interrupted: Callable[[], bool] = never) -> bool | None:
-        """Go back by a number of instructions; return whether there were enough.
+        """Go back by a number of instructions; return whether so many had executed.
 
-        If there are fewer, the guest goes to the first state. Returns None if it is interrupted; then the guest doesn't move. Raises
+        If fewer had executed, the guest goes to the first state. Returns None if the call is interrupted; then the guest doesn't move. Raises
         LabError.
         """
         before, self.hit = self._watched_values(), None
@@ -105,7 +105,7 @@ class Timeline:
     def before(self, is_interrupted: Callable[[], bool] = never) -> Iterator[Guest | None]:
         """Yield a guest on a separate session, in the state before the last instruction; the timeline's guest doesn't move.
 
-        Yields None if no instruction was executed, or if it is interrupted. Raises LabError.
+        Yields None if no instruction was executed, or if the search is interrupted. Raises LabError.
         """
         self.run.control = self._control(is_interrupted, "going back")
         replay = None if self.run.is_at_start else self._history.at(-1, is_interrupted)
@@ -119,7 +119,7 @@ class Timeline:
             replay.close()
 
     def back_to_halt(self, breaks: Sequence[int], is_interrupted: Callable[[], bool]) -> bool | None:
-        """As `back_to_halt_if_any`, but go back to the start if there is no such instruction. Raises LabError."""
+        """As `back_to_halt_if_any`, but go back to the start of the run if there is no such place; then return False. Raises LabError."""
         is_there = self.back_to_halt_if_any(breaks, is_interrupted)
         if is_there is False and not self.run.is_at_start:
             self.run.control = Control()
@@ -131,7 +131,8 @@ class Timeline:
 
         breaks: the addresses of breakpoints
 
-        Returns whether there is such a place; None if it is interrupted. The guest moves only if there is one. Raises LabError.
+        Returns whether there is such a place; None if the search is interrupted. The guest moves only if there is such a place. Raises
+        LabError.
         """
         self.hit, self.run.control = None, self._control(is_interrupted, "searching backwards")
         found = self._history.last_halt(Halts(frozenset(breaks), tuple(self.watches)), is_interrupted)
@@ -193,7 +194,7 @@ class Timeline:
     def _go_near(self, search: Search, ticks: int, breaks: Sequence[int]) -> tuple[bool, Stop | None]:
         """Run the program for a number of ticks, or to the first halt or stop.
 
-        Returns whether there was one, and the stop to report; None if there was none, or if the program didn't stop.
+        Returns whether there was a halt or a stop, and the stop to report. The second is None if there is nothing to report.
         """
         guest = self._guest
         done, halts, written = search.first(ticks)

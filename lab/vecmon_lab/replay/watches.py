@@ -28,22 +28,26 @@ class Watch:
 
 
 def accessed(watches: Sequence[Watch], guest: Guest, word: int) -> Watch | None:
-    """Return the first watched bytes that a guest's next instruction accesses in the watched way; None if there are none.
+    """Return the first of `watches` whose bytes a guest's next instruction accesses, in the way that the watch's kind says.
 
-    word: this instruction. All active elements count, also those that a fault or a fault-only-first load leaves out.
+    word: the word of the next instruction. All active elements count, also those that aren't accessed because the instruction faults or is a
+    fault-only-first load. Returns None if the instruction accesses no watched bytes.
     """
     return _met(watches, word, lambda: _spans(guest, word))
 
 
 def logged_access(watches: Sequence[Watch], line: bytes) -> Watch | None:
-    """Return the first watched bytes that an instruction has accessed in the watched way; None if there are none. line: its line in a log"""
+    """Return the first of `watches` whose bytes an instruction has accessed, in the way that the watch's kind says; None if there is none.
+
+    line: the instruction's line in a log
+    """
     return _met(watches, int(line[WORD], 16), lambda: _logged_spans(line)) if b" mem " in line else None
 
 
 def _met(watches: Sequence[Watch], word: int, spans: Callable[[], Iterable[Span]]) -> Watch | None:
-    """Return the first watched bytes that an instruction accesses in the watched way; None if there are none.
+    """Return the first of `watches` whose bytes an instruction accesses, in the way that the watch's kind says; None if there is none.
 
-    word: the instruction; spans: returns the addresses that it accesses, each with its number of bytes
+    word: the word of the instruction; spans: returns the addresses that the instruction accesses, each with a number of bytes
     """
     candidates = [watch for watch in watches if word & 0x7F in ACCESSES[watch.kind]]
     found = list(spans()) if candidates else []

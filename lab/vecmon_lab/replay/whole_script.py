@@ -57,7 +57,7 @@ class WholeScript:
         self.guest, self.control = guest, Control()
         self.saved = SavedStates(lambda: guest.session.rewound(b""))
         self._intervals = Intervals(guest.user, guest.session.quantum)
-        # Lines and answers to follow, each after the size of the script before it.
+        # The lines that `_intervals` hasn't followed yet: for each, the size of the script before the line, the line, and its answer.
         self._new = list[tuple[int, str, str]]()
         guest.session.on_lines = self._note
         guest.on_pause = self.save_if_due
@@ -85,7 +85,7 @@ class WholeScript:
         return not any(interval.work for interval in self.stretches)
 
     def count(self, place: int, most: int) -> Parts:
-        """Set the count of an interval, whatever `most` is."""
+        """Set the count of an interval, even if it is above `most`."""
         interval = self._intervals.intervals[place]
         self._advance(place)
         breaks = interval.breaks if interval.has_stopped else ()
@@ -112,7 +112,10 @@ class WholeScript:
         return Replay(place, made, Guest(replayed.session, guest.user), replayed)
 
     def first_halt(self, place: int, offset: int, halts: Halts) -> Generator[None, None, int | None]:
-        """Return the first offset above this one where the program halts before its next instruction; None if there is none."""
+        """Return the first offset of an interval above `offset` at which the program halts; None if there is none.
+
+        The program halts before the instruction at this offset executes.
+        """
         interval = self._intervals.intervals[place]
         start = yield from self.state(place, offset + 1)
         try:
@@ -126,10 +129,10 @@ class WholeScript:
         return offset + number if number and offset + number <= (interval.count or 0) else None
 
     def last_halt(self, place: int, halts: Halts) -> Generator[None, None, tuple[int, Watch | None] | None]:
-        """Return the last offset at which the program halts, and the watched memory; None if there is no halt.
+        """Return the last offset of an interval at which the program halts, and the watched memory; None if there is no halt.
 
-        The offset is that of a breakpoint, with None for the watched memory, or the one after an instruction that accesses or changes
-        watched memory.
+        For a breakpoint, this is the offset of the instruction that has the breakpoint, with None for the watched memory. For an access to
+        watched memory, it is the offset after the instruction that accesses or changes the memory.
         """
         interval = self._intervals.intervals[place]
         count = interval.count or 0

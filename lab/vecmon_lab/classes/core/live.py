@@ -25,9 +25,13 @@ def is_servers(line: str) -> bool:
 
 
 def with_output(done: Iterable[tuple[str, Sequence[str]]], states: dict[str, State]) -> dict[str, bool]:
-    """Return the users whose stopped programs may have output, by digit, and for each whether the program resumes once its buffer is empty.
+    """Find the users whose programs have stopped and may have written output, after lines were executed.
 
-    done: executed lines and their answers; states: the states of users before these lines, by digit
+    done: the executed lines, each with its answer
+    states: the state of each user before these lines, by the user's digit
+
+    Returns a mapping from the digit of each of these users to whether the program should resume once its output was taken: True if the
+    program ran and stopped because its output buffer was full, and False otherwise.
     """
     steps = dict.fromkeys(states, 0)
     still: dict[str, bool] = {}
