@@ -80,7 +80,13 @@ class _Program(argparse.Action):
                     f"{word} after {path} is an argument of the program; options of {parser.prog} go before {path}"
                 )
                 print(f"vecmon-lab: {help_text}", file=sys.stderr)
-        namespace.named, namespace.image = pathlib.Path(path), image_path(path, namespace, bool(self.const))
+        namespace.named = pathlib.Path(path)
+        if self.const != UNBUILT:
+            namespace.image = image_path(path, namespace, self.const == ASSEMBLED)
+
+
+UNBUILT, ASSEMBLED, UNASSEMBLED = "unbuilt", "assembled", "unassembled"
+"""What is made of a program that a command line names: nothing yet; an image, also of an assembler source; or of no such source."""
 
 
 SOURCES = "a source in C (.c) or assembler (.s, .S)"
@@ -91,6 +97,7 @@ def add_program(
     help_text: str = f"an ELF file, or {SOURCES}",
     is_needed: bool = True,
     assembles: bool = False,
+    builds: bool = True,
 ) -> None:
     """Add the arguments of a program: the image, the arguments after it, the compiler of a source, and a file as the image's input.
 
@@ -98,12 +105,19 @@ def add_program(
 
     help_text: the help about the image; is_needed: whether the image is required
     assembles: whether to build an image from an assembler source, too
+    builds: whether to build the image when the arguments are parsed; otherwise only `named` is set
     """
     parser.allow_abbrev = False  # so that no argument of the program is looked up among the options
     help_text = f"{help_text}; the arguments after it are the program's"
     metavar = "IMAGE" if is_needed else "[IMAGE]"
+    made = ASSEMBLED if assembles else UNASSEMBLED
     image = parser.add_argument(
-        "image", metavar=metavar, nargs=argparse.PARSER, action=_Program, const=assembles, help=help_text
+        "image",
+        metavar=metavar,
+        nargs=argparse.PARSER,
+        action=_Program,
+        const=made if builds else UNBUILT,
+        help=help_text,
     )
     image.required = is_needed
     add_compiler(parser)

@@ -199,5 +199,5 @@ def test_object_file_is_named(lab: Lab, tmp_path: pathlib.Path) -> None:
     data = SUM.read_bytes()
     (tmp_path / "sum.o").write_bytes(data[:16] + b"\1\0" + data[18:])  # e_type is ET_REL
     text = "it is an object file, and no program: link it with -nostdlib -static -no-pie"
-    for command in ("run", "compare", "profile"):
-        assert lab(command, tmp_path / "sum.o") == (2, b"", f"vecmon-lab: {tmp_path / 'sum.o'}: {text}\n")
+    for command, status in ("run", 2), ("compare", 125), ("profile", 2):
+        assert lab(command, tmp_path / "sum.o") == (status, b"", f"vecmon-lab: {tmp_path / 'sum.o'}: {text}\n")

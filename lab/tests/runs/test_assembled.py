@@ -94,7 +94,7 @@ def test_profile_and_compare_name_lines_of_source(lab: Lab, sums: pathlib.Path, 
     assert lines[1] == "10010 10024 next sums.s:6-11 3 13 13 68 %".split()
     assert "10014 next+0x4 sums.s:7 lbu x5, 0(x11) 2 2".split() in lines
     status, output, _ = lab("compare", EXAMPLES / "unwritten" / "tail_added.s")
-    assert status == 1 and b"which comes from the tail of 10014 strip tail_added.s:7: vadd.vi v8, v8, 1\n" in output
+    assert status == 1 and b"  10014 strip tail_added.s:7: vadd.vi v8, v8, 1 (instruction 10), element 5\n" in output
 
 
 def test_image_has_lines_and_labels_for_binutils(sums: pathlib.Path) -> None:

@@ -80,7 +80,7 @@ def test_commands_give_equal_output(lab: Lab, qemu: None, image: Callable[[str],
     status, tables, errors = lab("profile", path)
     assert (status, errors) == (0, "") and b"; status 0\n" in tables
     status, compared, errors = lab("compare", path)
-    assert (status, errors) == (0, "") and compared.count(b"the same\n") == 7 and b"; 4,000 bytes: " in compared
+    assert (status, errors) == (0, "") and b"\nthe same with 8 seeds\n" in compared and b"; 4,000 bytes: " in compared
     command = [sys.executable, "-m", "vecmon_lab", "console", str(path)]
     shown = subprocess.run(command, cwd=TOP, input=b"run\n", capture_output=True, check=True)
     assert shown.stdout.count(expected) == 1 and b"ended with status 0," in shown.stdout and shown.stderr == b""
@@ -93,7 +93,7 @@ def test_commands_give_equal_output(lab: Lab, qemu: None, image: Callable[[str],
 
 def test_endless_program_is_not_compared_at_tick_limit(lab: Lab, image: Callable[[str], pathlib.Path]) -> None:
     status, compared, errors = lab("compare", "--ticks", 14_000, image("endless"))
-    assert (status, compared.count(b"the same\n"), errors) == (124, 7, "")
+    assert (status, compared.count(b"\nundecided with 8 seeds"), errors) == (124, 1, "")
 
 
 def test_calls_beyond_breakpoint_limit_are_reported(lab: Lab, program: pathlib.Path, tmp_path: pathlib.Path) -> None:

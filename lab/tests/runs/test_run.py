@@ -126,7 +126,7 @@ def test_program_receives_arguments(lab: Lab, program: pathlib.Path, tmp_path: p
     make_image(program, tmp_path / "arguments", ARGUMENTS)
     assert lab("run", tmp_path / "arguments") == (1, b"arguments\n", "")
     assert lab("run", "--", tmp_path / "arguments", "one", "--stats", "--") == (4, b"arguments\none\n--stats\n--\n", "")
-    assert lab("compare", tmp_path / "arguments", "-2")[1].startswith(b"keep, slices of 1,000:  exit 2 ")
+    assert b"arguments: exit 2; 13 bytes: " in lab("compare", tmp_path / "arguments", "-2")[1].splitlines()[0]
     assert lab("profile", tmp_path / "arguments", "-2")[1].endswith(b"ticks; status 2\n")
 
 

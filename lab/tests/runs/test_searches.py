@@ -77,6 +77,7 @@ def test_tail_is_found(lab: Lab, clang: Compiler, tmp_path: pathlib.Path) -> Non
     slip = compiled(clang, copied(tmp_path / "slip", "dot_product.c"))
     assert lab("run", slip)[0] == 0 and lab("run", "--policy", "ones", slip)[0] == 1
     status, output, _ = lab("compare", slip)
-    assert status == 1 and b": vredsum.vs " in output and b"which comes from the tail of " in output
+    assert status == 1 and b"  first read at " in output and b": vredsum.vs " in output
+    assert b"relies on tail elements: tail@vmacc.vv " in output and b", element 4\n" in output
     mended = compiled(clang, copied(tmp_path / "mended", "dot_product.c", {"_vmacc_vv_u32m2": "_vmacc_vv_u32m2_tu"}))
     assert lab("run", "--policy", "ones", mended)[0] == 0 == lab("compare", mended)[0]

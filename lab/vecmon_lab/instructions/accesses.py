@@ -93,13 +93,23 @@ def body_of(word: int, instruction: VectorInstruction, control: ControlRegisters
         return range(1)
     if instruction.name == "vmv.s.x":
         return range(control.vstart < control.vl)
-    is_unit_stride = word & 0x7F in VECTOR_ACCESSES and word >> 26 & 3 == UNIT_STRIDE
-    mode, count = word >> 20 & 31 if is_unit_stride else None, control.vl
-    if mode == WHOLE_REGISTERS or re.fullmatch("vmv[1248]r.v", instruction.name):
+    count = control.vl
+    if moves_whole_registers(word, instruction):
         count = len(instruction.operands[0].registers) * REGISTER_BITS // instruction.operands[0].eew
-    elif mode == MASK:
+    elif _unit_stride_mode(word) == MASK:
         count = -(-control.vl // 8)
     return range(control.vstart, count)
+
+
+def moves_whole_registers(word: int, instruction: VectorInstruction) -> bool:
+    """Return whether an instruction moves, loads or stores whole registers, whatever vl and vtype are."""
+    return _unit_stride_mode(word) == WHOLE_REGISTERS or bool(re.fullmatch("vmv[1248]r.v", instruction.name))
+
+
+def _unit_stride_mode(word: int) -> int | None:
+    """Return the field lumop or sumop of a unit-stride load or store; None for any other instruction."""
+    is_unit_stride = word & 0x7F in VECTOR_ACCESSES and word >> 26 & 3 == UNIT_STRIDE
+    return word >> 20 & 31 if is_unit_stride else None
 
 
 def active_of(instruction: VectorInstruction, body: range, v: bytes) -> list[int]:

@@ -20,7 +20,7 @@ from ..instructions.calls import ECALL
 from ..machine.target import report_target
 from ..runs.dataflow import Cell
 from .differences import differences
-from .logs import Commit, Kind, Log
+from ..runs.logs import Commit, Kind, Log
 from .origins import LOOKS_BACK, LoggedStep, origin
 
 _NUMBER = re.compile(r"\b([xv])(\d+)\b")

@@ -11,7 +11,7 @@ from ..instructions.left_open import left_open
 from ..instructions.reserved import registers_of_two_widths
 from ..machine.answers import CONTROL
 from ..runs.dataflow import Cell, Executed, Part, parts
-from .logs import Commit
+from ..runs.logs import Commit
 
 LOOKS_BACK = 20_000  # the number of instructions that are examined before a difference
 

@@ -2,7 +2,7 @@
 
 import functools
 from collections import Counter
-from collections.abc import Mapping, Sequence
+from collections.abc import Iterable, Mapping, Sequence
 from dataclasses import dataclass
 
 from .. import LabError
@@ -69,16 +69,20 @@ class Counts:
     @functools.cached_property
     def texts(self) -> Mapping[int, str]:
         """The text of each word, as the machine shows it."""
-        words = sorted({place.word for place in self.places})
-        with Session(find_program()) as session:
-            guest = Guest(session)
-            guest.ask("enter", "map 0 1 rw")
-            texts = dict[int, str]()
-            for at in range(0, len(words), PAGE_BYTES // 4):
-                page = words[at : at + PAGE_BYTES // 4]
-                guest.ask(*pokes(0, b"".join(word.to_bytes(4, "little") for word in page)))
-                texts |= {it.word: it.text for it in guest.words(range(0, 4 * len(page), 4))}
-        return texts
+        return texts_of(place.word for place in self.places)
+
+
+def texts_of(words: Iterable[int]) -> Mapping[int, str]:
+    """Return the text of each of these words, as the machine shows it."""
+    listed, texts = sorted({*words}), dict[int, str]()
+    with Session(find_program()) as session:
+        guest = Guest(session)
+        guest.ask("enter", "map 0 1 rw")
+        for at in range(0, len(listed), PAGE_BYTES // 4):
+            page = listed[at : at + PAGE_BYTES // 4]
+            guest.ask(*pokes(0, b"".join(word.to_bytes(4, "little") for word in page)))
+            texts |= {it.word: it.text for it in guest.words(range(0, 4 * len(page), 4))}
+    return texts
 
 
 def read_counts(text: str) -> Counts:
@@ -88,22 +92,31 @@ def read_counts(text: str) -> Counts:
         *rows, last = text.splitlines()
         for row in rows:
             match row.split(" "):
-                case ["at", pc, word, times, ticks, active, masked, tail]:
+                case ["at", pc, word, times, taken, active, masked, tail]:
                     elements = (int(active), int(masked), int(tail))
-                    places.append(CountedWord(int(pc, 16), int(word, 16), int(times), int(ticks), elements))
+                    places.append(CountedWord(int(pc, 16), int(word, 16), int(times), int(taken), elements))
                 case ["vl", vtype, vl, times]:
                     lengths[vtype_text(int(vtype, 16)), int(vl)] = int(times)
                 case ["call", pc, target, times]:
                     calls[int(pc, 16), int(target, 16)] = int(times)
                 case _:
                     raise ValueError(row)
-        stop, instructions, ticks = last.rsplit(" ", 2)
-        end = answers.read([f"1 {stop}"])
-        if not isinstance(end, answers.ProgramState):
-            raise ValueError(last)
+        end, instructions, ticks = read_end(last)
     except ValueError as error:
         raise LabError(f"{RECORDER} prints no counts: {str(error)[:60]!r}") from error
     done = sorted(
         (it for it in places if it.times), key=lambda it: (it.address, it.word)
     )  # a word that only faulted was executed 0 times
-    return Counts(done, lengths, calls, end, int(instructions), int(ticks))
+    return Counts(done, lengths, calls, end, instructions, ticks)
+
+
+def read_end(line: str) -> tuple[answers.ProgramState, int, int]:
+    """Return what the last line of each of the recorder's files says: the end, the instructions and the ticks of a run.
+
+    Raises ValueError for another line.
+    """
+    stop, instructions, ticks = line.rsplit(" ", 2)
+    end = answers.read([f"1 {stop}"])
+    if not isinstance(end, answers.ProgramState):
+        raise ValueError(line)
+    return end, int(instructions), int(ticks)

@@ -2,7 +2,7 @@
 
 import pathlib
 from collections.abc import Iterable, Sequence
-from dataclasses import dataclass
+from dataclasses import dataclass, replace
 
 from .. import mistakes_in
 from ..checkpoints.snapshot import Snapshot
@@ -32,6 +32,18 @@ class InitialState:
     memory: Sequence[PlacedBytes] = ()
     registers: Sequence[str] = ()
     policy: str = "keep"
+
+
+def with_settings(initial_state: InitialState, settings: Sequence[str]) -> InitialState:
+    """Return the initial state with other values, each as `x12=1f` or, of bytes at an address, `7fffefb8=00ff`."""
+    registers, memory = [*initial_state.registers], [*initial_state.memory]
+    for setting in settings:
+        place, _, digits = setting.partition("=")
+        if place[0] in "xv":
+            registers.append(f"{place} {digits}")
+        else:
+            memory.append((int(place, 16), "rw", bytes.fromhex(digits)))
+    return replace(initial_state, registers=registers, memory=memory)
 
 
 def initial_state_of(

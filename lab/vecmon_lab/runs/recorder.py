@@ -18,6 +18,9 @@ TAKEN_BYTES = 1 << 16  # the most bytes of output to read at once
 CHECK_SECONDS = 0.1  # between two calls of `check`
 LARGE_PAGES = "glibc.malloc.hugetlb=1"  # this saves a third of a short run's time
 
+PlacedFile = tuple[list[str], str, io.FileIO]
+"""An option of the recorder, what precedes the path of its file, and the file, which is in memory."""
+
 
 @dataclass(frozen=True)
 class Record:
@@ -44,11 +47,8 @@ def record(
     ticks: the most ticks; None for no limit; write: is called with the run's output as it arrives; more: further records
     check: is called several times a second during the run, and ends the run if it raises
     """
-    registers, counts = "\n".join(initial_state.registers).encode(), _in_memory()
-    given = [
-        (["--memory"], f"{at:x}:{permissions}:", _in_memory(data)) for at, permissions, data in initial_state.memory
-    ]
-    given += [(["--registers"], "", _in_memory(registers))] if registers else []
+    counts = in_memory()
+    given = placed_files(initial_state)
     given += [(["--counts"], "", counts), *((list(each.words), "", each.file) for each in more)]
     words = ["--policy", initial_state.policy, *(["--ticks", f"{ticks}"] if ticks else [])]
     with contextlib.ExitStack() as stack:
@@ -56,15 +56,24 @@ def record(
         for option, place, file in given:
             words += [*option, f"{place}/dev/fd/{file.fileno()}"]
         words += ["--", str(initial_state.image)] if initial_state.image else []
-        status, operands = _run_recorder(words, files, len(more), write, check)
+        status, operands = run_recorder(words, files, len(more), write, check)
         counts.seek(0)
         text = counts.read().decode("ascii")
     if status != 0:
-        raise LabError(_refusal(operands, initial_state) or f"{RECORDER} ended with status {status}")
+        raise LabError(refusal(operands, initial_state) or f"{RECORDER} ended with status {status}")
     return replace(read_counts(text), short_writes=int(operands.rpartition(" ")[2] or 0))
 
 
-def _run_recorder(
+def placed_files(initial_state: InitialState) -> list[PlacedFile]:
+    """Return what the recorder reads at the start of a run: the bytes of memory, and the registers, if any are set."""
+    registers = "\n".join(initial_state.registers).encode()
+    files: list[PlacedFile] = [
+        (["--memory"], f"{at:x}:{permissions}:", in_memory(data)) for at, permissions, data in initial_state.memory
+    ]
+    return files + ([(["--registers"], "", in_memory(registers))] if registers else [])
+
+
+def run_recorder(
     words: Sequence[str],
     files: Sequence[io.FileIO],
     number: int,
@@ -97,7 +106,7 @@ def _run_recorder(
             raise
 
 
-def _refusal(operands: str, initial_state: InitialState) -> str:
+def refusal(operands: str, initial_state: InitialState) -> str:
     """Return why the recorder recorded nothing. If it refused the image, the text is the monitor's.
 
     operands: the recorder's text on standard error
@@ -108,7 +117,7 @@ def _refusal(operands: str, initial_state: InitialState) -> str:
     return reason
 
 
-def _in_memory(data: bytes = b"") -> io.FileIO:
+def in_memory(data: bytes = b"") -> io.FileIO:
     """Return a file in memory with these bytes."""
     file = io.FileIO(os.memfd_create(RECORDER), "w+")
     file.write(data)

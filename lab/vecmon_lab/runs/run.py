@@ -7,6 +7,7 @@ import io
 import itertools
 import os
 import pathlib
+import re
 import stat
 import sys
 from collections import Counter
@@ -26,8 +27,10 @@ from ..instructions.reasons import describe_stop
 from ..machine.answers import Stop
 from ..machine.start_state import RETURN
 from ..output import write_out
-from .initial_state import initial_state_of
+from .choices import Choices, add_choices, choices_of
 from .counts import Counts
+from .initial_state import initial_state_of, with_settings
+from .open_runs import MAX_TICKS, OpenProgram
 from .recorder import Record, record
 from .trace import trace
 from .writes import short_write
@@ -55,13 +58,20 @@ def add_arguments(parser: argparse.ArgumentParser) -> None:
         "--count", action="store_true", help="print the number of instructions and ticks on standard error"
     )
     parser.add_argument("--stats", action="store_true", help="the same, by name, and by vector type and length")
+    add_choices(parser)
+    help_text = "start with another value in a register, or with other bytes at an address"
+    parser.add_argument(
+        "--set", dest="settings", metavar="PLACE=DIGITS", type=_setting, action="append", default=[], help=help_text
+    )
 
 
 def run(arguments: argparse.Namespace) -> int:
     """Run the image. Return its exit status, or a status for the way it stopped. Raises LabError and OSError for bad input."""
-    named, symbols = arguments.named, Symbols.read(arguments.image)
+    named, symbols, choices = arguments.named, Symbols.read(arguments.image), choices_of(arguments)
     _check_window(arguments)
     check_outputs([arguments.trace, arguments.log], named, *filter(None, [arguments.input]))
+    if choices.options() or arguments.settings:
+        return _run_open(arguments, choices, symbols)
     with arguments.trace.open("ab", buffering=0) if arguments.trace else contextlib.nullcontext() as file:
         counts = counted(arguments, write_out, [*_logs(arguments)])
         report_calls(arguments, counts, symbols)
@@ -79,6 +89,34 @@ def run(arguments: argparse.Namespace) -> int:
             start = functools.partial(_begun, arguments)
             _write_trace(arguments.trace, file, trace(start, symbols, window))
     return counts.stop.number if counts.stop and is_exit else status_of(counts.stop, arguments.image)
+
+
+def _setting(word: str) -> str:
+    """Return an argument of `--set`, if it has the right form."""
+    if not re.fullmatch("(x[0-9]+|v[0-9]+|vxrm|vxsat)=[0-9a-f]+|[0-9a-f]{1,16}=([0-9a-f]{2})+", word):
+        raise argparse.ArgumentTypeError(f"{word!r} sets nothing; x12=1f does, and 11000=00ff of two bytes")
+    return word
+
+
+def _run_open(arguments: argparse.Namespace, choices: Choices, symbols: Symbols) -> int:
+    """Run the image with choices and initial values. Return its exit status, or a status for the way it stopped.
+
+    Raises LabError and OSError for bad input.
+    """
+    if arguments.policy != "keep" or arguments.trace or arguments.count or arguments.stats:
+        raise LabError("--open and --set can't be combined with --policy ones, --trace, --count or --stats")
+    initial_state = initial_state_of(
+        arguments.image, [arguments.image.name, *arguments.words], arguments.input, "keep", arguments.named
+    )
+    initial_state = with_settings(initial_state, arguments.settings)
+    end = OpenProgram(initial_state, arguments.ticks or MAX_TICKS).run(choices, write_out, [*_logs(arguments)])
+    if end.kind != "exit":
+        place = f"{end.pc:x} {symbols.place(end.pc)}".rstrip()
+        what = describe_stop(end) if isinstance(end, Stop) else "the ticks ran out"
+        print(f"vecmon-lab: {arguments.named}: {place}: {what}", file=sys.stderr)
+    if isinstance(end, Stop) and end.kind == "exit":
+        return end.number
+    return status_of(end if isinstance(end, Stop) else None, arguments.image)
 
 
 def counted(
