@@ -142,6 +142,23 @@ def test_agnostic_elements_are_reported(kernel: Kernel) -> None:
     assert kernel.call("fifth", 0, 0, 0, 0, 5, policy="both").value == 5
 
 
+def test_seeds_choose_agnostic_elements(kernel: Kernel) -> None:
+    """Seed 0 chooses nothing, seed 1 all ones; of 2 and 3 each element of the tail is ones with one of them."""
+    before = array.array("i", [9] * 4)
+    left = [kernel.call("tail", before, policy="open", seed=seed).arrays[0] for seed in range(4)]
+    assert left[0] == kernel.call("tail", before).arrays[0]
+    assert left[1] == kernel.call("tail", before, policy="ones").arrays[0]
+    for kept, ones, *others in zip(*left):
+        assert sorted(others) == sorted([kept, ones])
+    assert kernel.call("fifth", 0, 0, 0, 0, 5, policy="open", seed=7).value == 5
+
+
+def test_seed_and_policy_need_each_other(kernel: Kernel) -> None:
+    for given in ({"policy": "open"}, {"seed": 1}, {"policy": "open", "seed": 1, "counted": True}):
+        with pytest.raises(LabError, match="needs a seed"):
+            kernel.call("fifth", 0, 0, 0, 0, 5, **given)  # type: ignore[arg-type]
+
+
 def test_calls_are_independent(kernel: Kernel, monkeypatch: pytest.MonkeyPatch) -> None:
     processes = set()
     monkeypatch.setattr(kernels, "RENEWED_BYTES", 3000)

@@ -2,6 +2,7 @@
 
 import contextlib
 import html
+import itertools
 import os
 import pathlib
 import re
@@ -26,6 +27,7 @@ from ..guest.notebook import registers_html
 from ..guest.runner import Reporter
 from ..guest.symbols import Symbols
 from ..instructions.accesses import PAGE_BYTES
+from ..instructions.reasons import describe_stop
 from ..machine.answers import Answer
 from ..machine.answers import Memory, Refused, ScalarRegisters, Stop
 from ..machine.program import find_program
@@ -33,8 +35,10 @@ from ..machine.session import Session
 from ..machine.start_state import RETURN, STACK
 from ..machine.target import target_warnings
 from ..meanings.stepped import Step
-from ..runs.initial_state import initial_state_at
+from ..runs.choices import Choices
 from ..runs.counts import Counts
+from ..runs.initial_state import initial_state_at
+from ..runs.open_runs import OpenProgram
 from ..runs.recorder import record
 from ..tables.table import html_table
 from .arguments import FIRST_ARGUMENT, Argument, Call, call_of, result_of
@@ -152,6 +156,7 @@ class Kernel(contextlib.AbstractContextManager["Kernel"]):
         policy: str = "keep",
         ticks: int = 1_000_000,
         counted: bool = False,
+        seed: int | None = None,
     ) -> Result:
         """Call a function with integers and arrays' addresses, at most eight, in a0 to a7.
 
@@ -159,23 +164,27 @@ class Kernel(contextlib.AbstractContextManager["Kernel"]):
         it is a ctypes integer such as `ctypes.c_uint32(7)`. An array that isn't `Placed` ends at the end of a page. Arrays that share
         memory also share it in the call.
 
-        policy: of agnostic elements, `keep` or `ones`; `both` calls the function twice, and compares the results
+        policy: of agnostic elements, `keep` or `ones`; `both` calls the function twice, and compares the results; `open`
+        makes choices that the standard leaves open by the seed
         ticks: the most that the call may take; above 1,000,000, rounded up to a multiple of 1,000. A call that writes more than 1,024
         bytes may take more.
+        seed: of the policy `open`, an integer from 0, which chooses nothing
         counted: whether instructions are counted; with the policy `both`, those under `keep`
 
         Raises CallStopped, PoliciesDiffer, and LabError for arguments that don't fit the function.
         """
         if ticks < 1:
             raise LabError(f"a call has a tick at least, and not {ticks}")
+        if (policy == "open") != (seed is not None) or policy == "open" and counted:
+            raise LabError("policy='open' needs a seed, such as seed=1, and counts nothing")
         call = self._call(symbol, arguments)
+        if seed is not None:
+            return self._chosen(symbol, call, ticks, seed)
         policies = ("keep", "ones") if policy == "both" else (policy,)
         (first, counts), *others = [self._left(symbol, each, call, ticks, counted) for each in policies]
         if others and first != others[0][0]:
             raise PoliciesDiffer(f"{symbol}: {'; '.join(_differences(first, others[0][0]))}")
-        value, found, output = first
-        arrays = [like(each.given, data) for each, data in zip(call.layout.arrays.values(), found)]
-        return Result(value, arrays, output, counts, call.result.bits if call.result else 64)
+        return _result(call, first, counts)
 
     def steps(self, symbol: str, *arguments: Argument, policy: str = "keep", most: int = 100_000) -> Iterator[Step]:
         """Yield the instructions of a call with the same arguments as for `call`, up to its return or its stop. Raises LabError.
@@ -263,6 +272,25 @@ class Kernel(contextlib.AbstractContextManager["Kernel"]):
         contents = call.layout.contents(each.data for each in found if isinstance(each, Memory))
         return (result_of(registers.x[FIRST_ARGUMENT], call.result), contents, output), counts
 
+    def _chosen(self, symbol: str, call: Call, ticks: int, seed: int) -> Result:
+        """The results of a call with the choices of a seed, on the recorder."""
+        self._renew()
+        guest = self._guest
+        before = self._begin_call(symbol, "keep", call.lines)
+        state = initial_state_at(guest, self._images.get("image"), [f"1 {line}" for line in before])
+        arrays = list(call.layout.arrays.values())
+        program = OpenProgram(state, ticks, [(each.address, each.size) for each in arrays], [FIRST_ARGUMENT])
+        outcome = program.outcome(Choices(seed))
+        if outcome.end.pc != RETURN:
+            place = f"{outcome.end.pc:x} {self._symbols.place(outcome.end.pc)}".rstrip()
+            stop = outcome.end if isinstance(outcome.end, Stop) else None
+            why = describe_stop(stop) if stop else "the ticks ran out"
+            raise CallStopped(f"{symbol} with seed {seed}: {place}: {why}", stop)
+        ends = [0, *itertools.accumulate(each.size for each in arrays)]
+        contents = [outcome.memory[start:end] for start, end in itertools.pairwise(ends)]
+        value = result_of(outcome.registers[0], call.result)
+        return _result(call, (value, contents, outcome.output), None)
+
     def _execute(self, ticks: int, before: Sequence[str], looks: Sequence[str]) -> tuple[Stop | None, list[Answer]]:
         """Execute a call until it stops, or for the given number of ticks. Return the stop and the answers to `looks`.
 
@@ -291,6 +319,13 @@ class Kernel(contextlib.AbstractContextManager["Kernel"]):
                 text += f" Array {number} is from {array.address:#x} to {end:#x}."
                 break
         return CallStopped(text, stop)
+
+
+def _result(call: Call, left: _Left, counts: Counts | None) -> Result:
+    """The results of a call as its caller gets them."""
+    value, found, output = left
+    arrays = [like(each.given, data) for each, data in zip(call.layout.arrays.values(), found)]
+    return Result(value, arrays, output, counts, call.result.bits if call.result else 64)
 
 
 @contextlib.contextmanager
