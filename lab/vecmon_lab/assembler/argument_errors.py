@@ -8,9 +8,9 @@ _DEMANDS = [(where.split(), re.compile(pattern), message) for where, pattern, me
 
 
 def argument_error(line: str, form: str) -> str:
-    """Return why the machine refuses a line with E04: its first argument that doesn't fit the form of its command.
+    """Return why the machine refuses a line with E04, as a clause: which argument doesn't fit the form of the command, and why.
 
-    form: the form of the command, as `peek ADDR N`
+    If several arguments don't fit, the clause is about the first of them. form: the form of the command, as `peek ADDR N`
     """
     name, *kinds = form.removeprefix("* ").split()
     _, *words = line[2:].split(None, len(kinds) if "TEXT" in kinds else -1)

@@ -16,9 +16,14 @@ FileReader = Callable[[str], bytes]
 
 
 class Assembly:
-    """The parts of a program, while its source is read. Parts that need addresses are completed at the end.
+    """The parts of a program while its source is read. Parts that need addresses are completed once sections have their bases.
 
     files: reads the files of .include and .incbin; None if these directives are refused
+    instructions: the instructions so far; items: the numbers and texts of directives so far
+    locals: the names in .local; exported: the names in .globl and similar directives
+    is_ended: whether the rest of the source is ignored
+    line: the statement that is being read
+    mistakes, warnings: the mistakes and warnings so far, by line and column
     """
 
     def __init__(self, files: FileReader | None = None) -> None:
@@ -29,7 +34,7 @@ class Assembly:
         self.locals: set[str] = set()
         self.exported: set[str] = set()
         self.is_ended = False
-        self.line = Line("", 0)  # the statement that is being read
+        self.line = Line("", 0)
         self.mistakes: dict[tuple[int, int], SourceError] = {}
         self.warnings: dict[tuple[int, int], SourceError] = {}
 
@@ -43,14 +48,14 @@ class Assembly:
 
     @contextlib.contextmanager
     def noting(self) -> Iterator[None]:
-        """Note a SourceError that is raised in this context, which then ends normally."""
+        """Return a context that notes a SourceError raised in it as a mistake, and then ends without an exception."""
         try:
             yield
         except SourceError as error:
             self.note(error)
 
     def here(self) -> Value:
-        """Return the address of the next byte."""
+        """Return the address of the next byte in the current section."""
         return self.sections.here()
 
     def constant(self, operand: Operand) -> int:
@@ -58,9 +63,9 @@ class Assembly:
         return self.symbols.constant(operand, self.here())
 
     def put_instruction(self, name: Token, operands: list[Operand], texts: list[str]) -> None:
-        """Make room for an instruction or a pseudo-instruction.
+        """Add an instruction or a pseudo-instruction to the current section. Raises SourceError if the program becomes too large.
 
-        texts: the templates of its expansion, one for each machine instruction
+        name: the mnemonic; texts: the templates of its expansion, one for each machine instruction
         """
         column = self.line.column if self.line.places else name.column
         self.instructions.append(Instruction(name, operands, self.here(), texts, self.line.number, column))
@@ -68,16 +73,17 @@ class Assembly:
         self.sections.current.code_end = self.sections.current.size
 
     def put_plain(self, plain: PlainInstruction) -> None:
-        """Make room for an instruction that depends only on its line, which is read. Raises SourceError."""
+        """Add a plain instruction to the current section. Raises SourceError if the program becomes too large."""
         self.instructions.append(PlacedInstruction(plain, self.line.number, self.here()))
         if not self._has_grown(4 * len(plain.made)):
             raise plain.name.in_line(self.line.number).error(TOO_LARGE)
         self.sections.current.code_end = self.sections.current.size
 
     def put(self, name: Token, size: int, make: Callable[[], bytes] | None = None) -> None:
-        """Make room for bytes in the current section. Raises SourceError if the program becomes too large.
+        """Add bytes to the current section. Raises SourceError if the program becomes too large.
 
-        size: their number; make: returns them, and is called at the end; None for instructions and for zeros
+        name: the token to which the error points; size: the number of bytes
+        make: returns the bytes once sections have their bases; None for zeros, and for the bytes of an instruction
         """
         section = self.sections.current
         if make is not None:
@@ -86,7 +92,7 @@ class Assembly:
             raise name.error(TOO_LARGE)
 
     def _has_grown(self, size: int) -> bool:
-        """Add a number of bytes to the section, and return whether the program may be that large. If not, add none: others may fit."""
+        """Add bytes to the size of the current section, and return True. If the program would become too large, add none; return False."""
         section = self.sections.current
         pages = section.pages()
         section.size += size
@@ -96,9 +102,10 @@ class Assembly:
         return False
 
     def put_item(self, name: Token, size: int, make: Callable[[], bytes], value: Callable[[], int] | None) -> None:
-        """Make room for a number or a text, and add it to the data items of the program.
+        """Add a number or a text to the current section and to the program's data items. Raises SourceError as `put` does.
 
-        size: in bytes; make: returns the bytes at the end; value: returns the number at the end; None for a text
+        name: the token to which the error points; size: the number of bytes
+        make, value: return the bytes and the number once sections have their bases; value is None for a text
         """
         item = DataItem(self.sections.current, self.sections.current.size, size, value)
         self.put(name, size, make)
@@ -106,7 +113,10 @@ class Assembly:
 
 
 def _zeros(name: Token, make: Callable[[], bytes]) -> Callable[[], bytes]:
-    """Return a function that calls `make` for a directive in .bss, and that raises SourceError unless all bytes are 0."""
+    """Return a function that returns the bytes of a directive in .bss, and raises SourceError unless all of them are 0.
+
+    name: the directive, for the error; make: returns the bytes
+    """
 
     def make_zeros() -> bytes:
         data = make()

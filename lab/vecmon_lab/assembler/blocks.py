@@ -10,10 +10,10 @@ from .line import Line, tokens_of
 from .macros import Macro, Parameter, called, read_parameters, separate_arguments, with_arguments
 from .statements import statements, without_comments
 
-MAX_DEPTH = 50  # nested calls and repetitions
-MAX_STATEMENTS = 20_000  # that all calls and repetitions make
-MAX_CHARACTERS = 400_000  # in the statements that all calls and repetitions make
-STATEMENT_CHARACTERS = 16  # added for each statement, if the limit is below MAX_CHARACTERS
+MAX_DEPTH = 50  # the most calls and repetitions inside each other
+MAX_STATEMENTS = 20_000  # the most statements to which all calls and repetitions expand
+MAX_CHARACTERS = 400_000  # the most characters in these statements
+STATEMENT_CHARACTERS = 16  # characters that count for each statement in addition, if the limit is below MAX_CHARACTERS
 _HEAD = re.compile(r"\s*((?:[\w.$]+\s*:\s*)*)([A-Za-z_.$][\w.$]*)?", re.ASCII)
 _REPETITIONS = (".rept", ".rep", ".irp", ".irpc")
 _RARS_END = ".end_macro"
@@ -40,10 +40,13 @@ BLOCK_DIRECTIVES = (*_CONDITIONS, *_BRANCHES, *_ENDS, ".endr", ".endm", ".exitm"
 
 @dataclass
 class _Condition:
-    """An .if, with the line where it begins.
+    """An .if whose .endif isn't read yet.
 
-    is_reached: whether the .if itself is assembled; is_active: whether its current branch is assembled
-    was_taken: whether one of its branches up to here was assembled; has_else: whether its .else was read
+    line: the statement with the .if
+    is_reached: whether the .if itself is in a part of the source that is assembled
+    is_active: whether the branch that is being read is assembled
+    was_taken: whether one of the branches up to the present one was assembled
+    has_else: whether the .else was read
     """
 
     line: Line
@@ -54,16 +57,19 @@ class _Condition:
 
 
 class TooMuchMade(Exception):
-    """Calls and repetitions make more than a limit below MAX_CHARACTERS allows. With a higher limit, the source may be right."""
+    """Calls and repetitions expand to more characters than a limit below MAX_CHARACTERS allows.
+
+    With a higher limit, the source may have no mistakes.
+    """
 
 
 class Blocks:
-    """The statements of a source, with its blocks expanded. Conditions depend on the statements before them."""
+    """Expands the macros, repetitions and included files of a source, and leaves out branches whose conditions don't hold."""
 
     def __init__(self, assembly: Assembly, most: int = MAX_CHARACTERS) -> None:
-        """most: characters that calls and repetitions may make; if it is below MAX_CHARACTERS, more of them raise TooMuchMade"""
+        """most: the most characters of calls and repetitions. If it is below MAX_CHARACTERS, more characters raise TooMuchMade"""
         self._assembly, self._most = assembly, most
-        self.macros: dict[str, Macro] = {}
+        self.macros: dict[str, Macro] = {}  # by the name in lower case
         self._conditions: list[_Condition] = []
         self._depth = self._count = self._calls = self._characters = 0
         self._is_leaving = False
@@ -77,7 +83,7 @@ class Blocks:
         }
 
     def expanded(self, lines: Iterable[Line]) -> Iterator[Line]:
-        """Yield the statements of a whole source to assemble, in order."""
+        """Yield the statements of a whole source to assemble, in order. Read each statement before you take the next one."""
         yield from self._expand(iter(lines))
         for condition in self._conditions[:1]:
             self._assembly.note(condition.line.error(0, "this condition doesn't end: .endif is missing"))
@@ -94,7 +100,10 @@ class Blocks:
                 yield line
 
     def _expand_line(self, name: str, line: Line, head: re.Match[str], lines: Iterator[Line]) -> Iterator[Line]:
-        """Yield the statements of a line that begins, after its labels, with a directive or the name of a macro."""
+        """Yield the statements to which a line expands that begins, after its labels, with a directive or the name of a macro.
+
+        name: the directive or macro, in lower case; head: the match of _HEAD in the line; lines: the statements after the line
+        """
         is_macro = name in self.macros and not re.match(r"\s*=(?!=)", line.text[head.end() :])
         is_condition = name in _CONDITIONS or name in _BRANCHES
         if not is_macro and not is_condition and name not in self._handlers:
@@ -117,7 +126,7 @@ class Blocks:
         return not self._conditions or self._conditions[-1].is_active
 
     def _nested(self, lines: Iterator[Line], opening: Line) -> Iterator[Line]:
-        """Yield the statements of a call or a repetition. Raises SourceError if it is nested too deep, or too long."""
+        """Yield the expanded statements of the call or repetition `opening`. Raises SourceError if it is nested too deep, or too long."""
         if self._depth == MAX_DEPTH:
             self._assembly.is_ended = True
             raise opening.error(0, f"calls and repetitions are nested more than {MAX_DEPTH} deep here")
@@ -132,7 +141,7 @@ class Blocks:
         self._is_leaving = False
 
     def _counted(self, lines: Iterator[Line], opening: Line) -> Iterator[Line]:
-        """Yield the lines, and count each. Raises SourceError after MAX_STATEMENTS or MAX_CHARACTERS."""
+        """Yield the lines of the call or repetition `opening`. Raises SourceError after MAX_STATEMENTS or MAX_CHARACTERS of all calls."""
         for line in lines:
             self._count_one(opening)
             self._characters += len(line.text)
@@ -150,7 +159,7 @@ class Blocks:
             raise opening.error(0, f"calls and repetitions make more than {MAX_STATEMENTS:,} statements")
 
     def _call(self, macro: Macro, line: Line) -> Iterator[Line]:
-        """Yield the statements of a macro that a line calls."""
+        """Yield the statements to which a call expands. line: the statement with the call, starting with the macro's name"""
         length = len(macro.name)
         self._calls += 1
         made = called(macro, line, 0, length, self._calls - 1)
@@ -158,13 +167,13 @@ class Blocks:
         yield from self._nested(self._made(made), line)
 
     def _made(self, makers: Iterable[Callable[[], Line]]) -> Iterator[Line]:
-        """Yield the statements that functions make. Note a SourceError of a function, and leave out its statement."""
+        """Call functions, and yield the statements that they return. If a function raises SourceError, note the mistake and go on."""
         for make in makers:
             with self._assembly.noting():
                 yield make()
 
     def _define(self, name: str, line: Line, lines: Iterator[Line]) -> Iterable[Line]:
-        """Define the macro that begins at a line."""
+        """Define the macro that begins at a line. Return no statements. Raises SourceError. lines: the statements after the line"""
         body = self._body(name, line, lines)
         match = re.compile(r"\.\w+\s+([A-Za-z_.$][\w.$]*)", re.ASCII).match(line.text)
         if match is None:
@@ -177,9 +186,11 @@ class Blocks:
         return ()
 
     def _body(self, name: str, line: Line, lines: Iterator[Line]) -> list[Line]:
-        """Return the statements up to the directive that ends a block, without this directive. Raises SourceError if there is no end.
+        """Return the statements of a block, up to the directive that ends it. Raises SourceError if the block doesn't end.
 
-        In a repetition, .endm ends a macro that the repetition defines.
+        The directive itself is read, but not returned. In a repetition, .endm ends a macro that the repetition defines.
+
+        name: the directive that begins the block; line: the statement with it; lines: the statements after it, which are consumed
         """
         body, depth, macros = list[Line](), 1, 0
         for each in lines:
@@ -199,7 +210,7 @@ class Blocks:
         raise line.error(0, f"{name} doesn't end: {_ENDS[name][0]} is missing")
 
     def _repeat(self, name: str, line: Line, lines: Iterator[Line]) -> Iterator[Line]:
-        """Yield the statements of a repetition: its block, once for each of its values."""
+        """Yield the statements of a repetition: the statements of its block, once for each of its values."""
         body = self._body(name, line, lines)
         for arguments in self._rounds(name, line):
             self._count_one(line)
@@ -208,12 +219,12 @@ class Blocks:
                 return
 
     def _with(self, line: Line, arguments: Mapping[str, Line]) -> Callable[[], Line]:
-        """Return a function that makes a statement of a repetition. The statement has the line and column where it was typed."""
+        """Return a function that returns a repetition's statement, with the round's arguments in it, and with its own line and column."""
         column = line.column + len(line.text) - len(line.text.lstrip())
         return lambda: line if not arguments else with_arguments(line, arguments, None)._replace(column=column)
 
     def _rounds(self, name: str, line: Line) -> Iterable[Mapping[str, Line]]:
-        """Return the arguments of each round of a repetition, by name. Raises SourceError."""
+        """Return the values of names in each round of a repetition. Raises SourceError. line: the statement that begins with `name`"""
         start = len(name)
         if name in (".rept", ".rep"):
             number = self._number(line)
@@ -228,7 +239,7 @@ class Blocks:
         return [{symbol.text: value} for value in values or [line.part(len(line.text))]]
 
     def _include(self, name: str, line: Line, lines: Iterator[Line]) -> Iterator[Line]:
-        """Yield the statements of a file. The line that executes them is the line that includes the file."""
+        """Yield the statements of an included file. They have the number of the line that includes the file."""
         directive, *operand = tokens_of(line)
         if not operand:
             raise directive.error(".include takes the name of a file")
@@ -238,14 +249,14 @@ class Blocks:
         yield from self._nested(_at(line, operand[0].text, statements(text)), line)
 
     def _leave(self, name: str, line: Line, lines: Iterator[Line]) -> Iterable[Line]:
-        """Leave the call or the repetition that is being expanded."""
+        """Leave the call or the repetition that is being expanded. Return no statements."""
         if not self._depth:
             raise line.error(0, ".exitm is outside of a macro")
         self._is_leaving = True
         return ()
 
     def _purge(self, name: str, line: Line, lines: Iterator[Line]) -> Iterable[Line]:
-        """Delete the definitions of macros."""
+        """Delete the definitions of the macros that a line names. Return no statements."""
         for argument in separate_arguments(line, len(name)):
             if self.macros.pop(argument.text.lower(), None) is None:
                 raise argument.error(0, f"there is no macro {argument.text}")
@@ -256,7 +267,7 @@ class Blocks:
         raise line.error(0, f"{name} has no {start} before it")
 
     def _decide(self, name: str, line: Line) -> None:
-        """Begin a condition, go on to its next branch, or end it. Raises SourceError."""
+        """Begin a condition, go on to its next branch, or end it, as the directive `name` of the line says. Raises SourceError."""
         if name in _CONDITIONS:
             is_reached = self._is_active()
             self._conditions.append(_Condition(line, is_reached, False, False))
@@ -275,13 +286,13 @@ class Blocks:
             self._take(may and (name == ".else" or self._holds(".if", line)))
 
     def _take(self, holds: bool) -> None:
-        """Assemble the statements from here on if the current branch's condition holds, or else skip them."""
+        """Begin to assemble the statements of the current branch if its condition holds, and to skip them otherwise."""
         condition = self._conditions[-1]
         condition.is_active = holds
         condition.was_taken = condition.was_taken or holds
 
     def _holds(self, name: str, line: Line) -> bool:
-        """Return whether a conditional directive, such as .ifdef, holds. Raises SourceError."""
+        """Return whether the condition of a directive such as .ifdef holds. Raises SourceError. line: begins with the directive"""
         head = re.compile(r"\.\w+\s*").match(line.text)
         text = line.part(head.end() if head else 0)
         if name in _NUMBER_TESTS:
@@ -296,7 +307,7 @@ class Blocks:
         return (values[0] == values[1]) == (name in (".ifc", ".ifeqs"))
 
     def _number(self, line: Line) -> int:
-        """Return the value of the expression after a directive. Raises SourceError."""
+        """Return the value of the expression after the directive with which a line begins. Raises SourceError."""
         directive, *tokens = tokens_of(line)
         if not tokens:
             raise directive.error(f"{directive.text} takes a number")
@@ -304,7 +315,10 @@ class Blocks:
 
 
 def _at(line: Line, file: str, lines: Iterable[Line]) -> Iterator[Line]:
-    """Yield the statements of a file, each with the place of the line that includes the file."""
+    """Yield the statements of an included file, each with the place of the line that includes the file.
+
+    line: the statement with .include; file: the file's name; lines: the statements of the file
+    """
     for each in lines:
         within = (f"in {file}, line {each.number}", *line.within)
         yield Line(each.text, line.number, line.place(0)[1], [line.place(0)] * (len(each.text) + 1), within)

@@ -15,7 +15,7 @@ from .argument_errors import argument_error
 
 @dataclass(frozen=True)
 class Command:
-    """A command of the monitor or the console: its form, as `peek ADDR N`, its effect, and the codes of its own refusals."""
+    """A command of the monitor or the console: its form, as `peek ADDR N`, its effect, and the codes of refusals that it may get."""
 
     form: str
     does: str
@@ -42,9 +42,9 @@ MEANINGS = {code: _plain(meaning) for code, meaning, _ in _REFUSALS}
 
 
 def help_on(name: str) -> list[str]:
-    """Return lines about a command (its form, its effect and its refusals) or about a refusal's code.
+    """Return lines that describe a command (its form, its effect and its refusals) or the meaning of a refusal's code.
 
-    name: a command or a code; an empty name selects all commands: their forms, a line for each section
+    name: a command or a code. For an empty name, return a line for each section of commands, with their forms
     """
     if not name:
         sections = itertools.groupby(_COMMANDS, operator.itemgetter(0))
@@ -59,7 +59,12 @@ def help_on(name: str) -> list[str]:
 
 
 def explain_refusal(line: str, answer: Refused) -> list[str]:
-    """Return lines that explain why a line was refused. If asm refused a text, its wrong character is marked in a second line."""
+    """Return lines that explain why a line of the monitor was refused.
+
+    If `asm` refused a text, the first line is this text, and the second line marks the wrong character.
+
+    line: the refused line; answer: the refusal
+    """
     word = "".join(words_of(line)[:1])
     own, other, whose = (f"* {word}", word, "a user") if line[0] == "*" else (word, f"* {word}", "the operator")
     match answer.code:
@@ -86,7 +91,10 @@ def explain_refusal(line: str, answer: Refused) -> list[str]:
 
 
 def refusal_on_pages(line: str, answer: Sequence[str]) -> str:
-    """Return the meaning of a line's refusal for pages, with code between backquotes; "" if the answer isn't a refusal."""
+    """Return the meaning of a refusal for pages, with code between backquotes; "" if the answer isn't a refusal.
+
+    line: a line of the monitor; answer: the lines of its answer
+    """
     parsed = read(answer) if is_refusal(answer) else None
     if not isinstance(parsed, Refused):
         return ""
@@ -95,9 +103,10 @@ def refusal_on_pages(line: str, answer: Sequence[str]) -> str:
 
 
 def log_entries(line: str, answer: Sequence[str]) -> list[str]:
-    """Return the lines of an answer as entries of a log: each starts with `*` if a program stopped, and otherwise with `<`.
+    """Return the lines of an answer as entries of a log.
 
-    A refusal is followed by a newline and its meaning.
+    An entry starts with `*` if the line of the answer says that a program stopped, and otherwise with `<`. After a refusal, a newline
+    and the meaning follow. line: the line of the monitor that was answered
     """
     words = refusal_on_pages(line, answer)
     return [f"{'*' if is_stop(part) else '<'}{part}\n{words}".rstrip("\n") for part in answer]

@@ -13,7 +13,7 @@ from .value import Value
 
 WIDTHS = {".byte": 1, ".half": 2, ".word": 4, ".dword": 8}
 WIDTHS |= {".2byte": 2, ".hword": 2, ".short": 2, ".4byte": 4, ".long": 4, ".int": 4, ".8byte": 8, ".quad": 8}
-STRINGS = {".ascii": b"", ".asciz": b"\0", ".string": b"\0"}  # with the bytes after each text
+STRINGS = {".ascii": b"", ".asciz": b"\0", ".string": b"\0"}  # the bytes that follow each text, by directive
 _OTHER_SIZES = {
     ".float": 4,
     ".single": 4,
@@ -40,7 +40,7 @@ class DataDirectives:
         }
 
     def keep_room(self, name: str, operands: Sequence[Operand]) -> None:
-        """Make room for the data of a directive that is refused, so that the data after it has the right addresses."""
+        """Reserve bytes for the data of a directive that is refused, so that the data after it has the right addresses."""
         self._assembly.sections.current.size += _OTHER_SIZES.get(name, 0) * len(operands)
 
     def _put_strings(self, name: Token, operands: list[Operand]) -> None:
@@ -64,7 +64,10 @@ class DataDirectives:
                 self._assembly.put_item(name, width, partial(self._symbols.data, operand, here, width), value)
 
     def _put_rars_copies(self, operand: Operand, width: int) -> None:
-        """Make room for copies in RARS's form, as 0:10, and note the mistake that .fill must be used instead."""
+        """Reserve bytes for copies in RARS's form, as 0:10, and note the mistake that .fill must be used instead.
+
+        operand: the number, a colon and the count; width: the size of a number in bytes
+        """
         number, colon, count = operand
         form = f".fill {count.text}, {width}, {number.text}"
         self._assembly.note(colon.error(f"{number.text}:{count.text} isn't in this assembler: write {form}"))
@@ -99,7 +102,7 @@ class DataDirectives:
         self._assembly.put(name, count * size, partial(bytes, copy * count) if any(copy) else None)
 
     def _size(self, name: Token, operand: Operand) -> int:
-        """Return the number of bytes or copies that an operand gives. Raises SourceError."""
+        """Return the value of an operand that is a number of bytes or copies. Raises SourceError if it is negative or too large."""
         size = self._assembly.constant(operand)
         if size < 0:
             raise operand[0].error(
@@ -120,7 +123,7 @@ class DataDirectives:
             self._assembly.put_item(name, len(data), partial(bytes, data), None)
 
     def _put_file(self, name: Token, operands: list[Operand]) -> None:
-        """Put the bytes of a file. Further operands are the offset of the first byte, and the greatest number of bytes."""
+        """Put bytes of a file. The operands are the file, the offset of the first byte, and the largest number of bytes."""
         check_count(name, operands, 1, 3)
         content = read_file(self._assembly, name, operands[0])
         skipped, *count = [self._assembly.constant(operand) for operand in operands[1:]] or [0]
@@ -133,7 +136,10 @@ class DataDirectives:
 
 
 def read_file(assembly: Assembly, name: Token, operand: Operand) -> bytes:
-    """Return the bytes of the file that a directive names. Raises SourceError if the file can't be read, or if files are refused."""
+    """Return the bytes of a file. Raises SourceError if the file can't be read, or if files are refused.
+
+    name: the directive; operand: the file's name in quotes
+    """
     path = b"".join(token.string() for token in operand).decode("utf-8", "replace")
     if assembly.files is None:
         raise name.error(

@@ -17,7 +17,7 @@ _UNSIGNED: dict[int, DataType] = {1: "u8", 2: "u16", 4: "u32", 8: "u64"}
 class DataItem:
     """A number or a text in a section.
 
-    offset: of its first byte in the section; size: in bytes
+    offset: the offset of the first byte in the section; size: the number of bytes
     value: returns the number, once sections have their bases; None for a text
     """
 
@@ -36,8 +36,8 @@ class DataItem:
 class DataRun:
     """Consecutive numbers of one type, or a text.
 
-    type: an unsigned type only if some number doesn't fit into the signed type
-    count: the number of numbers, or of bytes of a text
+    type: the type of the numbers, which is unsigned only if some number doesn't fit into the signed type; `text` for a text
+    count: how many numbers there are, or the number of bytes of the text
     """
 
     type: DataType
@@ -45,7 +45,9 @@ class DataRun:
 
 
 def data_runs(items: Iterable[DataItem], labels: Collection[int]) -> dict[int, DataRun]:
-    """Return the runs of data items, by the address of their first byte. A label starts a new run.
+    """Return the first MAX_RUNS runs of data items, by the address of a run's first byte.
+
+    A run has consecutive items of one size, all numbers or all texts. An item at a label starts a new run.
 
     labels: the addresses that have labels
     """

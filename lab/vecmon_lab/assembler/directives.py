@@ -17,7 +17,7 @@ IGNORED = frozenset(name for treatment, names in _ROWS if treatment == "none" fo
 """Directives of stock assemblers that have no effect here."""
 
 EXPORTING = frozenset([".globl", ".global", ".weak"])
-"""Directives that name symbols for other sources."""
+"""Directives that export names to other sources."""
 
 REFUSED = {name: reason for reason, names in _ROWS if reason != "none" for name in names}
 """Other directives of stock assemblers, each with the reason why it is refused."""
@@ -72,7 +72,10 @@ class Directives:
         raise name.error(f"there is no directive {name.text}", near)
 
     def assign(self, name: Token, operand: Operand, is_once: bool = False) -> None:
-        """Give a name the value of an operand; for a dot, move to the operand's address. Raises SourceError."""
+        """Give a name the value of an operand; for a dot, move to the operand's address in the section. Raises SourceError.
+
+        is_once: whether it is a mistake if the name already has a value
+        """
         if name.text == ".":
             self._go_to(name, [operand])
         elif name.kind is not Kind.NAME:
@@ -113,9 +116,10 @@ class Directives:
         self.assign(operands[0][0], operands[1], name.text == ".equiv")
 
     def _align(self, name: Token, operands: list[Operand]) -> None:
-        """Align the next byte to a multiple of 2^n or n bytes, as the directive's name says.
+        """Align the next byte to a multiple of 2^n or of n bytes, where n is the first operand. The directive's name says which.
 
-        A second operand is the value of the bytes between. A third operand is their greatest number: if more are needed, do nothing.
+        The second operand is the value of the bytes that are skipped. The third operand is the largest number of bytes to skip: if
+        more are needed, nothing is aligned. Both may be missing.
         """
         empty = {number for number, operand in enumerate(operands) if not operand}
         check_count(name, operands, 1, 3)
@@ -150,7 +154,7 @@ class Directives:
         return 1 << number
 
     def _go_to(self, name: Token, operands: list[Operand]) -> None:
-        """Move to a later offset in the section."""
+        """Move to a later offset in the section. The second operand is the value of the bytes that are skipped; by default it is 0."""
         check_count(name, operands, 1, 2)
         section = self._sections.current
         value = self._symbols.evaluate(operands[0], self._assembly.here())
@@ -165,7 +169,7 @@ class Directives:
         self._assembly.put(name, size, partial(bytes, bytes([fill]) * size) if fill else None)
 
     def _put_common(self, name: Token, operands: list[Operand]) -> None:
-        """Make room with a name in .bss; the room of .comm is after all of .bss. A third operand is the alignment."""
+        """Reserve bytes for a name in .bss, or for .comm after all of .bss. The operands are the name, the size and the alignment."""
         check_count(name, operands, 2, 3)
         label, size = operands[0][0], self._assembly.constant(operands[1])
         if label.kind is not Kind.NAME or len(operands[0]) != 1 or size < 0:

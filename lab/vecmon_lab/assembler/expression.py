@@ -6,7 +6,7 @@ from dataclasses import dataclass, field
 from .line import Kind, Operand, Token
 from .value import Value
 
-MAX_DEPTH = 50  # nested parentheses and prefixes
+MAX_DEPTH = 50  # the most parentheses and prefixes inside each other
 _RANKS: dict[str, int] = {
     **dict.fromkeys(("||",), 1),
     **dict.fromkeys(("&&",), 2),
@@ -15,7 +15,7 @@ _RANKS: dict[str, int] = {
     **dict.fromkeys(("|", "&", "^", "!"), 5),
     **dict.fromkeys(("*", "/", "%", "<<", ">>"), 6),
 }
-_COMPARISONS: dict[str, Callable[[int], bool]] = {  # comparisons of the sides' difference with 0
+_COMPARISONS: dict[str, Callable[[int], bool]] = {  # each takes the difference of the two sides
     "==": lambda difference: difference == 0,
     "!=": lambda difference: difference != 0,
     "<>": lambda difference: difference != 0,
@@ -65,9 +65,10 @@ _OPERATIONS: dict[str, Callable[[int, int], int]] = {
 
 @dataclass
 class Expression:
-    """An operand, and the index of the token at which its evaluation has arrived.
+    """An operand that is evaluated once, from its first token to its last.
 
-    term: returns the value of a name or a dot; function: returns the value of %NAME(..) for the tokens between its parentheses
+    tokens: the operand; term: returns the value of a name or a dot
+    function: takes the name in %NAME(..) and the tokens between its parentheses; returns the function's value
     """
 
     tokens: Operand
@@ -97,7 +98,7 @@ class Expression:
         return self.tokens[self._next - 1]
 
     def _operation(self, rank: int) -> Value:
-        """Return the value of the next terms and the operators between them, up to an operator with a precedence below this rank."""
+        """Return the value of the next terms and the operators between them, up to an operator with a lower precedence than `rank`."""
         left = self._term()
         while (operator := self._peek()) and operator.kind is Kind.MARK and _RANKS.get(operator.text, 0) >= rank:
             self._take()
@@ -117,7 +118,7 @@ class Expression:
         return value
 
     def _term_from(self, token: Token) -> Value:
-        """Return the value of the term that begins with a token."""
+        """Return the value of the term that begins with a token, which is already taken. Raises SourceError."""
         if token.kind is Kind.NUMBER and not token.symbol:
             return Value(token.number())
         if token.kind is not Kind.MARK:
@@ -156,7 +157,7 @@ class Expression:
 
 
 def _closing(tokens: Operand, start: int) -> int:
-    """Return the index of the closing parenthesis for the opening one before `start`; the number of tokens if there is none."""
+    """Return the index of the parenthesis that closes the one before the index `start`; the number of tokens if there is none."""
     depth = 1
     for index in range(start, len(tokens)):
         depth += {"(": 1, ")": -1}.get(tokens[index].text, 0)
@@ -166,20 +167,20 @@ def _closing(tokens: Operand, start: int) -> int:
 
 
 def _number(token: Token, value: Value) -> int:
-    """Return a value as a number. Raises SourceError if it is an address, which this operator doesn't take."""
+    """Return a value as a number. Raises SourceError if it is an address, which the operator `token` doesn't take."""
     if not value.is_number:
         raise token.error(f"{token.text} takes numbers, and this has an address: {ONLY_DIFFERENCES}")
     return value.number
 
 
 def _sum(left: Value, right: Value, sign: int) -> Value:
-    """Return the sum of two values in 64 bits, or with sign -1 their difference."""
+    """Return the sum of two values in 64 bits; their difference if `sign` is -1."""
     total = left.plus(right, sign)
     return total._replace(number=_wrapped(total.number))
 
 
 def _applied(operator: Token, left: Value, right: Value) -> Value:
-    """Return the value of an operator between two terms. Raises SourceError."""
+    """Return the result of an operator for the values on its two sides. Raises SourceError."""
     name = operator.text
     if name in "+-":
         return _sum(left, right, 1 if name == "+" else -1)

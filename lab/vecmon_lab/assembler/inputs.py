@@ -35,7 +35,7 @@ _SET_UP = (
     "set",
     "setpc",
     "vset",
-)  # commands that a `#>` line may have outside of lessons, too
+)  # commands that a `#>` line may have outside of lessons as well
 _INPUT = re.compile(r"#>\s*(?P<place>[\w.$]+)\s*=\s*(?:(?P<type>[iu](?:8|16|32|64)|text)\b(?:\[(?P<count>\d+)\])?)?\s*")
 _NUMBER = re.compile(r"[+-]?(?:0x[0-9a-fA-F]+|0b[01]+|[0-9]+)")
 _REGISTERS = {**REGISTERS, **{f"x{number}": f"x{number}" for number in range(32)}}
@@ -49,8 +49,10 @@ class LessonCommand(SourceError):
 class Inputs:
     """The settings that the `#>` lines of a source contain.
 
-    commands: commands of the monitor, each with the number of its line; mistakes, warnings: those of the lines
-    data: the numbers and texts of arrays, by address; size: of all arrays, in bytes
+    commands: commands of the monitor, each with the number of its line, which comes first
+    mistakes, warnings: the mistakes in these lines, and the warnings about them
+    data: the numbers and texts of arrays, by the address of the first byte
+    size: the size of all arrays together, in bytes
     """
 
     commands: list[tuple[int, str]] = field(default_factory=list)
@@ -77,7 +79,10 @@ def lines_with_inputs(text: str) -> list[int]:
 
 
 def with_inputs(program: Program, text: str) -> Program:
-    """Return a program with the commands, the mistakes and the data of the `#>` lines in its source."""
+    """Return a program to which the commands, the mistakes and the data of the `#>` lines in its source are added.
+
+    text: the source of the program
+    """
     lines = [(number, line) for number, line in enumerate(text.split("\n"), 1) if line.lstrip().startswith("#>")]
     if not lines:
         return program
@@ -88,9 +93,9 @@ def with_inputs(program: Program, text: str) -> Program:
 
 
 def read_inputs(lines: list[tuple[int, str]], labels: Mapping[str, int]) -> Inputs:
-    """Read `#>` lines, each given with its number.
+    """Return the settings that `#>` lines contain.
 
-    labels: the addresses of names
+    lines: the `#>` lines, each after its number in the source; labels: the addresses of the source's labels, by name
     """
     inputs, place = Inputs(), ARRAYS
     for number, line in lines:
@@ -105,12 +110,15 @@ def read_inputs(lines: list[tuple[int, str]], labels: Mapping[str, int]) -> Inpu
 
 
 def with_addresses(command: str, labels: Mapping[str, int]) -> str:
-    """Return a command of the monitor, with addresses in place of the labels that it names."""
+    """Return a command of the monitor in which each label is replaced with its address. labels: the addresses, by name"""
     return re.sub(r"\S+", lambda word: f"{labels[word[0]]:x}" if word[0] in labels else word[0], command)
 
 
 def _read_command(inputs: Inputs, number: int, line: str, labels: Mapping[str, int]) -> None:
-    """Add a command of the monitor to the inputs. Raises SourceError."""
+    """Add the command of a `#>` line to the inputs. Raises SourceError if the line has no command that a source may have.
+
+    number: of the line
+    """
     command = line.lstrip()[2:].strip()
     column = line.index("#>") + 1
     name = "".join(command.split()[:1])
@@ -131,9 +139,9 @@ def _read_command(inputs: Inputs, number: int, line: str, labels: Mapping[str, i
 
 
 def _read_input(inputs: Inputs, number: int, line: str, labels: Mapping[str, int], place: int) -> int:
-    """Add an input to the inputs. Return the address for the next array. Raises SourceError.
+    """Add the setting of a `#>` line to the inputs. Return the address at which the next array may start. Raises SourceError.
 
-    number: of the line; place: the address for an array of this line
+    number: of the line; place: the address of a page at which an array for a register may start
     """
     start = line.index("#>")
     found = _INPUT.match(line, start)
@@ -166,7 +174,7 @@ def _read_input(inputs: Inputs, number: int, line: str, labels: Mapping[str, int
 
 
 def _run(kind: str, size: int) -> DataRun:
-    """Return the type and the count of the numbers in an array. size: of the array, in bytes"""
+    """Return the type and the count of the numbers in an array. kind: the type's name, or `text`; size: of the array, in bytes"""
     if kind == "text":
         return DataRun("text", size)
     numbers = NUMBER_TYPES[kind]
@@ -174,7 +182,10 @@ def _run(kind: str, size: int) -> DataRun:
 
 
 def _scalar(number: int, column: int, text: str, labels: Mapping[str, int]) -> int:
-    """Return the 64-bit value of a register. Raises SourceError."""
+    """Return the unsigned 64-bit value of a number or a label. Raises SourceError if the text is neither.
+
+    number, column: the place of the text in the source
+    """
     if text in labels:
         return labels[text]
     if not _NUMBER.fullmatch(text):
@@ -186,9 +197,11 @@ def _scalar(number: int, column: int, text: str, labels: Mapping[str, int]) -> i
 
 
 def _data(number: int, column: int, kind: str, count: int, text: str, room: int) -> bytes:
-    """Return the bytes of an array, at most `room`. Raises SourceError.
+    """Return the bytes of an array. Raises SourceError if they are more than `room`, or if the text isn't an array.
 
-    count: how many numbers the array has; numbers that the text lacks are 0. If it is 0, the array has just the text's numbers
+    number, column: the place of the text in the source; kind: the type's name, or `text`
+    count: the number of numbers in the array; if the text has fewer, the others are 0. With count 0, the array has just the text's
+        numbers
     """
     too_large = SourceError(
         number, column, f"with this one, arrays are larger than the {USER_PAGES} pages that a user has"
@@ -218,7 +231,10 @@ def _data(number: int, column: int, kind: str, count: int, text: str, room: int)
 
 
 def _element(number: int, column: int, kind: str, text: str) -> int:
-    """Return a number of an array. Raises SourceError."""
+    """Return one number of an array. Raises SourceError if the text isn't a number of the type `kind`.
+
+    number, column: the place of the text in the source
+    """
     minimum, maximum = NUMBER_TYPES[kind].minimum, NUMBER_TYPES[kind].maximum
     if not _NUMBER.fullmatch(text):
         raise SourceError(number, column, f"{text} is no number")

@@ -24,11 +24,12 @@ _Pieces = list[tuple[str, Place]]  # pieces of a text, each with its place in th
 class Statement(NamedTuple):
     """A machine instruction: its address, its source line, its text for asm, and where each character of it was typed.
 
-    line: that executes it; column: in that line, where the instruction begins
-    offsets: where each character of the text was typed, and the text's end: the number of lines after `line`, and the column.
-        They are the same wherever the line is, so that an instruction that moves keeps them
-    within: the calls and files that it comes from, innermost first
-    alias: the name of the source's pseudo-instruction, if it has another name and this is its first instruction; or ""
+    line: the number of the source line that executes the instruction; column: the column where the instruction begins in that line
+    offsets: where each character of the text was typed, and then where the text ends: the number of lines after `line`, and the
+        column. So the offsets of an instruction don't change if its line moves
+    within: the calls and files that the instruction comes from, innermost first
+    alias: the pseudo-instruction as the source has it, if this is the first instruction of its expansion and has another name;
+        otherwise ""
     """
 
     address: int
@@ -40,7 +41,10 @@ class Statement(NamedTuple):
     alias: str = ""
 
     def place(self, at: int) -> Place:
-        """Return where the character at an index of the text was typed; for the text's length, the end of the last character."""
+        """Return the line and column where the character at an index of the text was typed.
+
+        The index may be the length of the text. Then return the place after the last character.
+        """
         lines, column = self.offsets[at]
         return self.line + lines, column
 
@@ -51,10 +55,10 @@ class Statement(NamedTuple):
 
 
 def refusal(statement: Statement, column: int, written: str = "") -> SourceError:
-    """Return the error in the source, after the machine refused a statement with E15 and a column.
+    """Return the mistake in the source for a statement that the machine refused with E15.
 
-    column: of the statement's text, as the machine names it
-    written: the text in the source, if the statement has another operand in place of one that doesn't fit
+    column: the column of the statement's text that the refusal names, from 1 on
+    written: the statement's text as the source has it, if `with_fitting_operand` has replaced an operand; otherwise ""
     """
     read = written or statement.text
     is_negative = statement.text[: column - 1].endswith("-")  # the machine names the column of the digits
@@ -86,9 +90,9 @@ _FITTING |= {
 
 
 def with_fitting_operand(statement: Statement, column: int) -> Statement | None:
-    """Return a statement with a valid operand in place of the operand at a column.
+    """Return a statement with a valid operand in place of the operand at a column of its text.
 
-    Return None if there is no operand at the column, or if no operand is known that fits there.
+    Return None if there is no operand at the column, or if no operand is known that fits there. column: from 1 on
     """
     name, space, _ = statement.text.partition(" ")
     row = instruction_table().get(name)
@@ -112,7 +116,10 @@ def with_fitting_operand(statement: Statement, column: int) -> Statement | None:
 
 
 def number_range(row: Row, before: str) -> str:
-    """Return the end of a message: the range of an operand's number, or "" if it has none. before: the text up to the number"""
+    """Return the range of numbers that an operand may have, as the end of a message; "" if the operand isn't a number with a range.
+
+    row: the instruction; before: the text of the instruction before the operand, whose commas show which operand it is
+    """
     forms = row.operands.replace("[, v0.t]", "").split(", ")
     place = before.count(",")
     form = forms[place].split("(")[0] if place < len(forms) else ""
@@ -129,7 +136,10 @@ def number_range(row: Row, before: str) -> str:
 
 @functools.lru_cache(maxsize=1024)
 def _holes(template: str) -> Sequence[tuple[str, str | None, str | None]]:
-    """Return the literal texts of a template, each with the number and the kind of the hole after it, or with None."""
+    """Return the literal texts of a template, each with the operand's number and the kind of the hole after it.
+
+    After the last text there may be no hole: then the number and the kind are None.
+    """
     return [(literal, hole, what) for literal, hole, what, _ in Formatter().parse(template)]
 
 
@@ -137,8 +147,9 @@ def _holes(template: str) -> Sequence[tuple[str, str | None, str | None]]:
 class Instruction:
     """An instruction or pseudo-instruction with its expansion. Its operands are evaluated when sections have their bases.
 
-    place: its address; templates: its expansion, one for each machine instruction
-    line, column: of its start, in the line that executes it; for the body of a macro, that is the line that calls the macro
+    place: the address of the first machine instruction
+    templates: the expansion, a text with holes for each machine instruction (see pseudo.py)
+    line, column: where the instruction starts in the source; for an instruction in the body of a macro, where the macro is called
     """
 
     name: Token
@@ -149,9 +160,9 @@ class Instruction:
     column: int
 
     def statements(self, symbols: Symbols, note: Callable[[SourceError], None]) -> Iterator[Statement]:
-        """Yield the machine's instructions, once sections have their bases. An instruction with mistakes is left out.
+        """Yield the machine instructions of the expansion, except those with mistakes. Call this once sections have their bases.
 
-        note: is called with each mistake
+        symbols: the values of names; note: is called with each mistake
         """
         for index, template in enumerate(self.templates):
             errors = list[SourceError]()
@@ -177,7 +188,7 @@ class Instruction:
         return f"{self.name.text} {', '.join(operands)}".rstrip()
 
     def _template_pieces(self, symbols: Symbols, template: str, errors: list[SourceError]) -> _Pieces:
-        """Return the text of a template with its holes filled. errors: the operands' mistakes are appended here"""
+        """Return the text of a template with its holes filled, in pieces. errors: mistakes in operands are appended to this list"""
         pieces = _Pieces()
         for literal, hole, what in _holes(template):
             operand = [] if hole is None else self.operands[int(hole)]
@@ -189,7 +200,7 @@ class Instruction:
         return pieces
 
     def _pieces(self, symbols: Symbols, operand: Operand, what: str) -> _Pieces:
-        """Return the text for a hole: an operand in the machine's syntax, or a value computed from the operand.
+        """Return the text for a hole: an operand in the machine's syntax, or a value computed from the operand. Raises SourceError.
 
         what: the kind of the hole (see pseudo.py)
         """
@@ -214,7 +225,11 @@ class Instruction:
         return self._number_pieces(operand, register, signed(number) if number >> 63 == 1 else number, what)
 
     def _number_pieces(self, operand: Operand, register: Token | None, number: int, what: str) -> _Pieces:
-        """Return the text of a number; if there is a register, the text of an address, with the number before the register."""
+        """Return the text of an operand: a number, or an address with a number before a register. Raises SourceError.
+
+        register: the register of the address; None if the operand is only a number
+        number: the operand's number; what: the kind of the hole (see pseudo.py)
+        """
         place, is_vector = _place(operand[0]), self.name.text.startswith("v")
         if what == "imm-1" and not -15 <= number <= 16:
             raise operand[0].error(f"{self.name.text} takes a number from -15 to 16")
@@ -226,7 +241,10 @@ class Instruction:
         return [("(" if is_vector else f"{number}(", place), (text, _place(register))]
 
     def _distance(self, symbols: Symbols, operand: Operand, part: str) -> str:
-        """Return the distance to a label: all of it for a jump, or the part for auipc or addi."""
+        """Return the distance in bytes from the instruction to a label, as digits. Raises SourceError.
+
+        part: `high` or `low` for the part of the distance that auipc or addi has; "" for the whole distance
+        """
         value = symbols.evaluate(operand, self.place)
         if value.section is None:
             message = "a label is needed here: a number is an address to some assemblers, and a distance to others"

@@ -15,7 +15,7 @@ _TOKEN = re.compile(
     | (?P<MARK><<|>>|<=|>=|==|!=|<>|&&|\|\||.)""",
     re.VERBOSE,
 )
-MAX_CALLS = 3  # calls and files that a message names, at most
+MAX_CALLS = 3  # the most calls and files that a message names
 _REPLACEMENTS = {"–": "-", "—": "-", "−": "-", "“": '"', "”": '"', "„": '"', "‘": "'", "’": "'"}
 _NAMES = (
     {  # Unicode's names of characters that are invisible or look like others; the playground's Python lacks unicodedata
@@ -51,8 +51,10 @@ Kind = enum.Enum("Kind", "NAME NUMBER STRING MARK")
 class SourceError(LabError):
     """A mistake in a source, with its line and column.
 
-    code: the machine's refusal, or ""; fix: texts that may replace the token at the mistake, the nearest one first
-    name: the name that isn't defined, whose first use is the only one reported; "" for other mistakes
+    line, column: the place, from 1 on; line 0 for a mistake without a place
+    code: the code of the machine's refusal, such as `E15`; "" if the machine didn't refuse anything
+    fix: texts that may replace the token at the mistake, the nearest one first
+    name: the name that isn't defined, if this is the mistake; "" for other mistakes. Only the first use of a name is reported
     """
 
     name = ""
@@ -65,12 +67,18 @@ class SourceError(LabError):
         return f"line {self.line}, column {self.column}: {self.message}"
 
     def diagnostic(self, name: str) -> str:
-        """Return the mistake in the form of compilers' messages. name: the source's; if the mistake has no line, there is no place"""
+        """Return the mistake as a message in the form that compilers use. Without a line, the message has no line and column.
+
+        name: the name of the source
+        """
         return f"{name}:{self.line}:{self.column}: {self.message}" if self.line else f"{name}: {self.message}"
 
 
 def chain(within: Sequence[str]) -> str:
-    """Return the end of a message: at most MAX_CALLS of the calls and files that a statement comes from, innermost first."""
+    """Return the end of a message: the calls and files that a statement comes from, at most MAX_CALLS of them.
+
+    within: the calls and files, innermost first, as in `Line`
+    """
     more = len(within) - MAX_CALLS
     shown = "".join(f"; {each}" for each in within[:MAX_CALLS])
     return f"{shown}; ... {more} more" if more > 0 else shown
@@ -79,10 +87,10 @@ def chain(within: Sequence[str]) -> str:
 class Line(NamedTuple):
     """A statement of a source: a line, or the part of one up to a semicolon, without its comment.
 
-    number: the number of the line that executes it; for the body of a macro, that is the line that calls the macro
-    column: the column of its first character; for the body of a macro, the column of the call
+    number: the number of the source line; for a statement in the body of a macro, of the line that calls the macro
+    column: the column of the first character; for a statement in the body of a macro, the column of the call
     places: where each character was typed; empty if the characters are consecutive in this line
-    within: the calls and files that it comes from, innermost first, as `in macro NAME, called in line 7`
+    within: the calls and files that the statement comes from, innermost first, as `in macro NAME, called in line 7`
     """
 
     text: str
@@ -92,7 +100,10 @@ class Line(NamedTuple):
     within: tuple[str, ...] = ()
 
     def place(self, at: int) -> Place:
-        """Return where the character at an index was typed. The index may be the text's length: then the place after the last character."""
+        """Return the line and column where the character at an index was typed.
+
+        The index may be the length of the text. Then return the place after the last character.
+        """
         if not self.places:
             return self.number, self.column + at
         line, column = self.places[min(at, len(self.places) - 1)]
@@ -113,7 +124,8 @@ class Line(NamedTuple):
 class Token:
     """A token and where it was typed.
 
-    symbol: the name under which its value is stored, if that isn't its text, as for `1b`; within: as in Line
+    symbol: the name under which `Symbols` has the token's value, if this name isn't the token's text, as for `1b`; otherwise ""
+    within: as in `Line`
     """
 
     kind: Kind
@@ -132,7 +144,10 @@ class Token:
         return SourceError(self.line, self.column, message + chain(self.within), fix=fix)
 
     def number(self) -> int:
-        """Return the value of a number below 2^64: decimal, hexadecimal after 0x, binary after 0b, or a character."""
+        """Return the value of a number below 2^64. Raises SourceError if the token isn't such a number.
+
+        The number may be decimal, hexadecimal after 0x, binary after 0b, or a character between apostrophes.
+        """
         if self.text.startswith("'"):
             return self._character()
         if re.fullmatch("0[0-9]+", self.text):
@@ -159,7 +174,10 @@ class Token:
         return data[0]
 
     def string(self) -> bytes:
-        r"""Return the bytes of a string, in UTF-8. Escapes are \b \f \n \r \t \" \\, octal ones of up to three digits, and \x41."""
+        r"""Return the bytes of a string, in UTF-8. Raises SourceError if the token isn't a string, or has an unknown escape.
+
+        Escapes are \b \f \n \r \t \" \\, a backslash and up to three octal digits, and hexadecimal digits as in \x41.
+        """
         if self.kind is not Kind.STRING:
             raise self.error("a string in double quotes is needed here")
         data = b""
@@ -247,7 +265,10 @@ def _replacement_of(character: str) -> list[str]:
 
 
 def token_length(text: str, column: int) -> int:
-    """Return the length of the token at a column of a line, or of an escape in a string; 0 after the last token."""
+    """Return the length of the token, or of the escape in a string, at a column of a line; 0 if there is none.
+
+    column: from 1 on; 0 for no column
+    """
     token = _TOKEN.match(text, column - 1) if column else None
     if token is None or token.lastgroup in ("SPACE", "COMMENT"):
         return 0
@@ -257,7 +278,10 @@ def token_length(text: str, column: int) -> int:
 
 
 def split_operands(tokens: Sequence[Token], may_be_empty: bool = False) -> list[Operand]:
-    """Split operands at commas. Raises SourceError if one has no tokens, unless `may_be_empty`."""
+    """Return the operands in the tokens after a name, which commas separate. Raises SourceError if an operand has no tokens.
+
+    may_be_empty: whether an operand before a comma may have no tokens
+    """
     operands: list[Operand] = [[]]
     for token in tokens:
         if token.text != ",":
@@ -272,7 +296,10 @@ def split_operands(tokens: Sequence[Token], may_be_empty: bool = False) -> list[
 
 
 def check_count(name: Token, operands: Sequence[Operand], count: int, most: int = 0) -> None:
-    """Raise SourceError unless the number of operands is `count`, or is from `count` to `most`."""
+    """Raise SourceError unless the number of operands is `count`, or from `count` to `most` if `most` isn't 0.
+
+    name: the instruction or directive, for the message
+    """
     if not count <= len(operands) <= max(count, most):
         numbers = f"{count} to {most}" if most else f"{count}"
         raise name.error(f"{name.text} takes {numbers} operand{'s' * (numbers != '1')}, not {len(operands)}")

@@ -1,4 +1,4 @@
-"""Macros of a source: their parameters, the arguments of a call, and the statements that a call makes."""
+"""Macros of a source: their parameters, the arguments of a call, and the statements to which a call expands."""
 
 import re
 from collections.abc import Callable, Iterator, Mapping, Sequence
@@ -19,7 +19,9 @@ _HOLE = re.compile(rf"\\(?:(@)|(\(\))|({_NAME}))", re.ASCII)
 class Parameter:
     """A parameter of a macro.
 
-    default: its text if a call gives none; is_required: whether a call must give it; takes_rest: whether it takes all further arguments
+    default: the text that the parameter has if a call doesn't give an argument for it; None for an empty text
+    is_required: whether a call must give an argument for it
+    takes_rest: whether it takes the whole rest of a call's text
     """
 
     name: str
@@ -37,9 +39,9 @@ class Macro:
     body: Sequence[Line]
 
     def arguments(self, line: Line, start: int, end: int) -> dict[str, Line]:
-        """Return the text of each parameter in a call. Raises SourceError.
+        """Return the text that a call gives to each parameter, by the parameter's name. Raises SourceError.
 
-        start, end: the indices of the macro's name in the line
+        line: the statement with the call; start, end: where the macro's name starts and ends in it, as indices
         """
         given: dict[str, Line] = {}
         positions = iter(self.parameters)
@@ -66,7 +68,10 @@ class Macro:
 
 
 def read_parameters(line: Line, start: int) -> list[Parameter]:
-    """Return the parameters of a macro. Raises SourceError. start: the index in the macro's first line at which they begin"""
+    """Return the parameters of a macro. Raises SourceError.
+
+    line: the statement with .macro; start: the index in it at which the parameters begin
+    """
     parameters, at, text = list[Parameter](), start, line.text.rstrip()
     while at < len(text):
         match = _PARAMETER.match(text, at)
@@ -85,7 +90,7 @@ def read_parameters(line: Line, start: int) -> list[Parameter]:
 
 
 def separate_arguments(line: Line, start: int) -> list[Line]:
-    """Return the arguments from an index on. Commas or spaces separate them."""
+    """Return the arguments in a statement from an index on. Commas or spaces separate arguments."""
     found, at = list[Line](), _skip_separator(line.text, start)
     while at < len(line.text):
         stop = _argument_end(line.text, at)
@@ -101,7 +106,10 @@ def _skip_separator(text: str, at: int) -> int:
 
 
 def _argument_end(text: str, start: int) -> int:
-    """Return the index after an argument. A comma ends an argument; so does a space, unless it is next to an operator."""
+    """Return the index after the argument that starts at an index of a text.
+
+    A comma ends an argument. A space ends it as well, unless the space is next to an operator.
+    """
     end = start
     while match := _ARGUMENT.match(text, end):
         end = match.end()
@@ -114,9 +122,9 @@ def unquoted(line: Line) -> Line:
 
 
 def with_arguments(line: Line, arguments: Mapping[str, Line], count: int | None) -> Line:
-    r"""Return a statement with arguments in place of \NAME. Raises SourceError.
+    r"""Return a statement in which each \NAME of an argument is replaced with the argument's text. Raises SourceError.
 
-    count: the number in place of \@; None to leave \@ unchanged
+    arguments: the text of each argument, by name; count: the number that replaces \@; None to leave \@ unchanged
     """
     if "\\" not in line.text:
         return line
@@ -139,9 +147,11 @@ def with_arguments(line: Line, arguments: Mapping[str, Line], count: int | None)
 
 
 def _value_of(line: Line, match: re.Match[str], arguments: Mapping[str, Line], count: int | None) -> Line | None:
-    """Return the text for a match of _HOLE; None if it doesn't name an argument.
+    """Return the text that replaces a match of _HOLE in a line; None if the match doesn't name an argument.
 
-    Raises SourceError if a dot after an argument's name makes it another name.
+    Raises SourceError if the name is an argument's name up to a dot, since the dot belongs to the name.
+
+    arguments, count: as in `with_arguments`
     """
     if match[1] or match[2]:
         here = [line.place(match.start())] * 20
@@ -154,9 +164,10 @@ def _value_of(line: Line, match: re.Match[str], arguments: Mapping[str, Line], c
 
 
 def called(macro: Macro, line: Line, start: int, end: int, count: int) -> Iterator[Callable[[], Line]]:
-    """Yield a function for each statement of a call. It makes the statement, or raises SourceError.
+    """Yield a function for each statement to which a call expands. The function returns the statement, or raises SourceError.
 
-    start, end: the indices of the macro's name in the line; count: the number that replaces \\@
+    line: the statement with the call; start, end: where the macro's name starts and ends in it, as indices
+    count: the number that replaces \\@
     """
     arguments = macro.arguments(line, start, end)
     within = (f"in macro {macro.name}, called in line {line.place(start)[0]}", *line.within)

@@ -16,9 +16,9 @@ _MEANT = re.compile(r"; did you mean ['‘]([^'’]+)['’]\?")
 class Mistake(TypedDict):
     """A mistake or a warning at a place in a source.
 
-    line, column: from 1 on; line 0 if it is at no line, as a linker's message
-    length: of the word there in characters; 0 at the end of a line, or at no line
-    code: a warning's option, as `-Wunused-variable`, or the machine's refusal, as `E15`
+    line, column: the place, from 1 on; line 0 for a message without a place, such as a linker's
+    length: the number of characters of the word at this place; 0 at the end of a line, or without a place
+    code: the compiler's option for a warning, as `-Wunused-variable`, or the code of the machine's refusal, as `E15`
     fix: texts that may replace the word, the nearest one first
     """
 
@@ -34,7 +34,10 @@ class Mistake(TypedDict):
 def mistakes_json(
     errors: Iterable[SourceError], text: str, is_c: bool = False, severity: Severity = "error"
 ) -> list[Mistake]:
-    """Return the mistakes or warnings of a source as messages. text: the source"""
+    """Return the mistakes or warnings of a source as messages, in the same order.
+
+    text: the source; is_c: whether it is in C; severity: of all these messages
+    """
     lines = text.split("\n")
     return [_mistake(error, lines, is_c, severity) for error in errors]
 
@@ -57,6 +60,6 @@ def _mistake(error: SourceError, lines: list[str], is_c: bool, severity: Severit
 
 
 def _word_length(line: str, column: int) -> int:
-    """Return the length of the C token at a column of a line."""
+    """Return the length of the C token at a column of a line; 0 if there is none. column: from 1 on; 0 for no column"""
     word = _WORD.match(line, column - 1) if column else None
     return len(word[0]) if word else 0

@@ -17,9 +17,12 @@ MAX_NEAR = 3
 
 @functools.lru_cache(maxsize=1024)
 def near_names(name: str, names: Set[str] = SOURCE_NAMES) -> list[str]:
-    """Return the nearest of these names with the same first letter, at most MAX_NEAR.
+    """Return the names nearest to a name, the nearest first. They have the same first letter, and are at most MAX_NEAR.
 
-    Of equally near names, a name that starts with more of the same letters comes first: for vad, vadd.vv before vand.vv.
+    Of equally near names, the one that has more letters in common with the start of `name` comes first: for vad, vadd.vv is before
+    vand.vv.
+
+    names: the names to choose from
     """
     own, small = sorted(each for each in names if each[0] == name[0].lower()), name.lower()
     near = get_close_matches(small, own, len(own) or 1)
@@ -38,9 +41,10 @@ def absence(name: str) -> str:
 
 
 def no_instruction(name: str, names: Set[str] = SOURCE_NAMES) -> str:
-    """Return the message about a name that isn't one of `names`.
+    """Return the message that there is no instruction with a name.
 
-    It says why the machine lacks the name, if that is known, or else names the nearest ones.
+    If the machine lacks an instruction or register of another extension with this name, the message says why. Otherwise it has the
+    nearest of `names`.
     """
     if reason := absence(name):
         return f"there is no instruction {name} here. {reason}"

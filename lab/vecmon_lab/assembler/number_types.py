@@ -33,7 +33,7 @@ class NumberType:
         return self.minimum + (1 << 8 * self.size) - 1
 
     def packed(self, numbers: Sequence[int]) -> bytes:
-        """Return the bytes of numbers, which must fit into the type."""
+        """Return the bytes that memory contains for numbers, which must fit into the type."""
         return struct.pack(f"<{len(numbers)}{self.code}", *numbers)
 
     def unpacked(self, data: bytes) -> tuple[int, ...]:

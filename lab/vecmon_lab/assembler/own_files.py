@@ -9,11 +9,14 @@ MAX_BYTES = 1 << 20  # the largest file: the size of a user's memory
 
 
 def files_beside(source: pathlib.Path) -> FileReader:
-    """Return a function that reads files in the folder of your own source, and in folders below it."""
+    """Return a function that reads files in the folder of a source, and in folders below it. source: the path of the source"""
     folder = source.absolute().parent.resolve()
 
     def read(name: str) -> bytes:
-        """Return the bytes of a file. Raises LabError if the file isn't below the source's folder, or is too large."""
+        """Return the bytes of a file. Raises LabError if the file can't be read, isn't below the source's folder, or is too large.
+
+        name: the path of the file relative to the source's folder
+        """
         try:
             path = (folder / name).resolve()
             if not path.is_relative_to(folder):

@@ -1,7 +1,7 @@
-"""Instructions that depend only on their own line: their operands are registers, keywords and numbers.
+"""Plain instructions, which depend only on their own line: their operands are registers, keywords and numbers.
 
-Most instructions of a source are plain ones, and an editor's source is read again after each change. So they are cached by the text of
-their line, without its number: a line that moves is not read again.
+Most instructions of a source are plain ones, and the source in an editor is read again after each change. So plain instructions are
+cached by the text of their line. The key doesn't have the number of the line, so a line that moves isn't parsed again.
 """
 
 import functools
@@ -23,9 +23,9 @@ _SAVED = 1 << 13  # lines in the cache
 
 @dataclass(frozen=True)
 class PlainInstruction:
-    """An instruction or pseudo-instruction of a line, and the labels before it, all as if the line were line 0 of the source.
+    """An instruction or pseudo-instruction of a line, and the labels before it. All places are in line 0 of a source.
 
-    made: the machine's instructions; the address of the first one is 0
+    name: the token with the mnemonic; made: the machine's instructions, the first one at address 0
     """
 
     labels: Sequence[Token]
@@ -34,14 +34,14 @@ class PlainInstruction:
 
 
 class PlacedInstruction(NamedTuple):
-    """A plain instruction at a place. line: the number of its line in the source"""
+    """A plain instruction in a source. line: the number of its line; place: the address of its first machine instruction"""
 
     plain: PlainInstruction
     line: int
     place: Value
 
     def statements(self, symbols: Symbols, note: Callable[[SourceError], None]) -> Iterable[Statement]:
-        """Return the machine's instructions, once sections have their bases."""
+        """Return the machine instructions with their addresses and line. Call this once sections have their bases."""
         first, line = self.place.resolved(), self.line
         return [
             Statement(first + each.address, line, each.column, each.text, each.offsets, (), each.alias)
@@ -50,13 +50,19 @@ class PlacedInstruction(NamedTuple):
 
 
 def plain_instruction(line: Line) -> PlainInstruction | None:
-    """Return a statement as a plain instruction; None for other statements, for those of a macro, and if it has a mistake."""
+    """Return the plain instruction of a statement.
+
+    Return None if the statement isn't a plain instruction, has a mistake, or comes from a macro or an included file.
+    """
     return None if line.places or line.within else _found(line.text, line.column)
 
 
 @functools.lru_cache(maxsize=_SAVED)
 def _found(text: str, column: int) -> PlainInstruction | None:
-    """Return the plain instruction of a text, with its places in line 0."""
+    """Return the plain instruction of a statement's text, with its places in line 0; None as for `plain_instruction`.
+
+    column: of the text's first character in the line
+    """
     try:
         tokens, labels = tokens_of(Line(text, 0, column)), list[Token]()
         while len(tokens) > 1 and tokens[1].text == ":" and tokens[0].kind is Kind.NAME:
@@ -79,7 +85,7 @@ def _found(text: str, column: int) -> PlainInstruction | None:
 
 
 def _is_plain(name: Token, operand: Operand) -> bool:
-    """Return whether an operand is a register, a keyword, a number, or an address without names."""
+    """Return whether an operand is a register, a keyword, a number, or an address without names. name: the instruction's mnemonic"""
     if len(operand) == 1 and operand[0].text in REGISTER_NAMES:
         return True
     if len(operand) == 1 and KEYWORD.fullmatch(f"{name.text} {operand[0].text}"):

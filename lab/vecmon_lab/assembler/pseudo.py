@@ -1,8 +1,12 @@
-"""Pseudo-instructions: the expansion of each, as in stock assemblers, as texts of the machine with holes.
+"""Pseudo-instructions: the expansion of each, as in stock assemblers, as templates: texts of instructions with holes.
 
-A hole is {N:WHAT}, where N is the number of an operand. WHAT decides which text replaces the hole: `label` or `symbol`, the
-distance to the operand; `label.high` and `label.low`, the parts of that distance for auipc and addi; `imm-1`, the operand
-minus 1; and any other, the operand unchanged.
+A hole is {N:WHAT}, where N is the number of an operand, from 0 on. WHAT decides which text replaces the hole:
+
+- `label` or `symbol`: the distance to the operand
+- `label.high` or `label.low`: the part of this distance that auipc or addi has
+- `imm-1`: the operand minus 1
+- `word`: the operand as a word of 32 bits
+- all others: the operand in the machine's syntax
 """
 
 import functools
@@ -19,7 +23,7 @@ _ROWS = [
     (form.split()[0], re.split(",? ", form)[1:], texts) for form, *texts in read_table("aliases") + read_table("pseudo")
 ]
 _Form = tuple[list[str], list[str]]
-"""The operands of a row, and its texts."""
+"""A row of the tables: the kinds of its operands, and the texts of its expansion."""
 _FORMS: dict[str, list[_Form]] = {}
 for _name, _form, _texts in _ROWS:
     _FORMS.setdefault(_name, []).append((_form, _texts))
@@ -30,11 +34,14 @@ _SHAPES = {"scalar": "scalar", "indirect": "indirect", "number": "number", "symb
 _FENCE_SETS = re.compile("i?o?r?w?")
 
 Operation = tuple[str, int]
-"""An instruction that makes a constant: its name and its immediate. It works on the result of the instruction before it."""
+"""An instruction in a sequence that makes a constant: its name and its immediate. Its source is the result of the one before it."""
 
 
 def templates(name: Token, operands: list[Operand], constant: Callable[[Operand], int]) -> list[str]:
-    """Return the expansion of a pseudo-instruction, which may depend on the value of a constant operand. Raises SourceError."""
+    """Return the templates of an instruction or pseudo-instruction, one for each machine instruction. Raises SourceError.
+
+    name: the mnemonic; constant: returns the value of an operand, on which the expansion may depend
+    """
     if name.text == "li":
         check_count(name, operands, 2)
         return _load_constant(operands[1], constant(operands[1]))
@@ -56,7 +63,10 @@ def templates(name: Token, operands: list[Operand], constant: Callable[[Operand]
 
 
 def _form_of(name: str, operands: list[Operand], constant: Callable[[Operand], int]) -> _Form | None:
-    """Return the first form of a name that takes these operands, or None. Raises SourceError if an operand must be a number and isn't."""
+    """Return the first row for a name that takes these operands, or None.
+
+    Raises SourceError if an operand must be a number and isn't one. constant: returns the value of an operand
+    """
     words = [operand[0].text if len(operand) == 1 else "" for operand in operands]
     shapes = tuple(shape(operand) for operand in operands)
     if name not in _BY_VALUE:
@@ -66,20 +76,27 @@ def _form_of(name: str, operands: list[Operand], constant: Callable[[Operand], i
 
 
 def _pattern(words: list[str]) -> Callable[[str], str]:
-    """What forms distinguish in a word: whether it is a literal, and which other words are the same."""
+    """Return a function that reduces one of these words to what rows distinguish: v0 and v0.t, and which words are equal.
+
+    words: the texts of operands that have one token, and "" for other operands
+    """
     return lambda word: word if not word or word in _LITERALS else f"{words.index(word)}"
 
 
 @functools.lru_cache(maxsize=4096)
 def _form_of_pattern(name: str, pattern: tuple[str, ...], shapes: tuple[str, ...]) -> _Form | None:
-    """Return the first form that takes operands with these patterns and shapes, or None."""
+    """Return the first row for a name that takes operands with these patterns and shapes, or None.
+
+    pattern: the results of `_pattern` for each operand; shapes: the results of `shape`
+    """
     return next((form for form in _FORMS[name] if _fits(form[0], pattern, shapes, ())), None)
 
 
 def _fits(form: list[str], words: Sequence[str], shapes: Sequence[str], values: Sequence[Callable[[], int]]) -> bool:
-    """Return whether a form takes operands with these words and shapes. Raises SourceError if one must be a number and isn't.
+    """Return whether a row takes operands with these words and shapes. Raises SourceError if one must be a number and isn't.
 
-    values: return the value of each operand
+    form: the kinds of the row's operands; words: as in `_pattern`, or its results; shapes: the results of `shape`
+    values: a function for each operand, which returns the operand's value
     """
     more = words[len(form) :]
     if form == ["*"]:
@@ -93,7 +110,10 @@ def _fits(form: list[str], words: Sequence[str], shapes: Sequence[str], values: 
 
 
 def _fence(name: Token, operands: list[Operand]) -> str:
-    """Return the encoding of a fence. Its two sets consist of i, o, r and w, in this order. Raises SourceError."""
+    """Return `.word` with the encoding of a fence. Raises SourceError.
+
+    operands: the two sets, each with some of the letters i, o, r and w, in this order
+    """
     check_count(name, operands, 2)
     word = 0x0000000F
     for operand, shift in zip(operands, (24, 20)):
@@ -108,7 +128,7 @@ def _fence(name: Token, operands: list[Operand]) -> str:
 
 @functools.lru_cache(maxsize=1024)
 def _filled(text: str, form: tuple[str, ...]) -> str:
-    """Return the text of an instruction with a hole for each operand of a form."""
+    """Return a text of an expansion with a hole in place of each operand. form: the kinds of the row's operands"""
     for place, operand in enumerate(form):
         text = re.sub(rf"(?<!{{)\b{operand}\b(?:\.\w+|-1)?", rf"{{{place}:\g<0>}}", text)
     return text
@@ -125,7 +145,10 @@ def _load_constant(operand: Operand, value: int) -> list[str]:
 
 
 def constant_steps(value: int) -> list[Operation]:
-    """Return the instructions with which LLVM 19 makes a constant of 64 bits, signed or unsigned: the first of its shortest sequences."""
+    """Return the instructions with which LLVM 19 makes a constant: the first of the shortest sequences that it considers.
+
+    value: the constant, signed or unsigned, in 64 bits
+    """
     value = _signed(value, 64)
     zeros = max(0, (value & -value).bit_length() - 1)  # trailing zero bits
     ways = [_plain_steps(value), _plain_steps(value >> zeros) + [("slli", zeros)]]
@@ -159,7 +182,10 @@ def _plain_steps(value: int) -> list[Operation]:
 
 
 def _steps_with_leading_zeros(value: int) -> list[list[Operation]]:
-    """Return sequences that make a positive value shifted left as far as possible, with ones or zeros below it, and shift it back."""
+    """Return two sequences for a positive value. They make the value shifted left as far as possible, and then shift it back.
+
+    The first one makes it with ones in the lowest bits, and the second one with zeros.
+    """
     zeros = 64 - value.bit_length()
     shifted = value << zeros
     return [_plain_steps(_signed(top, 64)) + [("srli", zeros)] for top in (shifted | (1 << zeros) - 1, shifted)]

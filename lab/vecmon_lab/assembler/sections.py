@@ -31,7 +31,9 @@ NO_THREADS = "thread-local storage isn't in this machine: a program has one hart
 
 
 class Sections:
-    """The sections of a source by name, and the current one.
+    """The sections of a source by name, and the current section.
+
+    current: the section to which statements add bytes
 
     end: the address after the last instruction, once sections have their bases; 0 if other bytes follow the last instruction
     """
@@ -44,7 +46,7 @@ class Sections:
         self.end = 0
 
     def here(self) -> Value:
-        """Return the address of the next byte."""
+        """Return the address of the next byte in the current section."""
         return Value(self.current.size, ((self.current, 1),))
 
     def enter(self, section: Section) -> None:
@@ -56,7 +58,10 @@ class Sections:
         return self._sections[name]
 
     def common(self, alignment: int) -> Section:
-        """Return the section of .comm, after .bss. alignment: of the next name in the section, a power of two"""
+        """Return the section for the data of .comm, which is after .bss. Align its next byte.
+
+        alignment: a power of two, by which the address of the next byte becomes divisible
+        """
         self._common.size += -self._common.size % alignment
         self._common.alignment = max(self._common.alignment, alignment)
         return self._common
@@ -72,15 +77,15 @@ class Sections:
         self.current, self._previous = self._stack.pop()
 
     def return_to_previous(self) -> None:
-        """Return to the section that was current before this one."""
+        """Make the section that was current before the present one the current section again."""
         self.enter(self._previous)
 
     def open(self, which: Token, name: str, operands: list[Operand]) -> bool:
-        """Make the section with a name the current one. Raises SourceError.
+        """Make the section with a name the current one, and create it if it doesn't exist. Raises SourceError.
 
-        Return whether the section is known to be loaded: stock tools don't load a section with an unknown name and no flags.
+        Return False if the section is new and has an unknown name and no flags. Here it gets data, but stock tools don't load it.
 
-        operands: the flags and the type, as .section has them
+        which: the token to which errors point; operands: the flags and the type, as .section has them after the name
         """
         is_new = name not in self._sections
         kind = _kind_of(which, name, operands)
@@ -104,9 +109,11 @@ class Sections:
         return sum(-(-size // PAGE_BYTES) for size in sizes.values())
 
     def place(self, origin: int) -> Iterator[str]:
-        """Give all sections their bases, and yield the lines that map their pages. There is room for one more instruction after the last.
+        """Give all sections their base addresses, and yield the commands that map their pages.
 
-        origin: the address of the first section, a multiple of a page
+        After the last instruction, there is room for one more.
+
+        origin: the address of the first section, a multiple of the size of a page
         """
         for kind in _ORDER:
             start, last = origin, Section("")
@@ -125,7 +132,12 @@ class Sections:
 
 
 def _kind_of(which: Token, name: str, operands: list[Operand]) -> _Kind | None:
-    """Return the kind of a section, by its flags, or else by its name; None if neither is known."""
+    """Return the kind of a section by its flags, or if it has none, by its name; None if the name is unknown as well.
+
+    Raises SourceError for thread-local storage.
+
+    which: the token to which errors point; operands: as in `Sections.open`
+    """
     if re.match(r"\.t(data|bss|comm)\b", name):
         raise which.error(NO_THREADS)
     if operands and operands[0][0].kind is Kind.STRING:

@@ -32,11 +32,11 @@ MAX_MISTAKES = 100
 
 
 class LineType(TypedDict):
-    """The vector types that may be in force from a line of a source on, until another line has some.
+    """The vector types that may be in force from a line of a source on, up to the next line that has an entry.
 
-    line: its number; it sets them itself, or its first instruction is reached with them
-    types: as vtype, in hexadecimal digits; none if any may be in force
-    vl: missing if it is unknown
+    line: the number of the line, which sets the types itself, or whose first instruction is reached with them
+    types: the values of vtype, in hexadecimal digits; empty if vtype may have any value
+    vl: the value of vl; missing if it is unknown
     """
 
     line: int
@@ -46,14 +46,18 @@ class LineType(TypedDict):
 
 @dataclass(frozen=True)
 class Program:
-    """An assembled source: lines of the monitor (map, asm, poke) without the user's digit, addresses by label, and the entry address.
+    """An assembled source.
 
-    mistakes: mistakes of form in order, at most MAX_MISTAKES and one for each place; if there are any, there are no lines
-    data: the numbers and texts of its directives, by address; warnings: of the assembler, or of a compiler
-    set_up: the commands of the monitor in its `#>` lines, each with its line number, if these lines were read (`inputs.py`)
-    end: the address after its last instruction, where an ebreak is added; 0 if other bytes follow there
+    lines: commands of the monitor (map, asm, poke) that load the program, without the user's digit; empty if there are mistakes
+    labels: addresses by label; statements: the machine instructions, in the order of the source
+    entry: the address at which the program starts
+    mistakes: the mistakes in the source's order, at most MAX_MISTAKES, and one for each place
+    data: the numbers and texts of directives, by the address of the first byte
+    warnings: the warnings of the assembler, or of a compiler
+    set_up: the commands of the monitor in `#>` lines, each after its line number; empty unless `inputs.py` has read these lines
+    end: the address after the last instruction, where an ebreak is added; 0 if other bytes follow the instruction
     exported: the names that .globl and similar directives export to other sources
-    types: the vector types at lines of the source, if they were computed (`language/line_types.py`)
+    types: the vector types at lines of the source; empty unless `language/line_types.py` has computed them
     """
 
     lines: list[str]
@@ -69,19 +73,19 @@ class Program:
     types: Sequence[LineType] = field(default=(), kw_only=True)
 
     def load_lines(self) -> list[str]:
-        """Return the lines of the monitor that load the program after `enter`, and set its start."""
+        """Return the commands of the monitor that load the program after `enter`, set up its stack, and set the program counter."""
         after_last = [f"asm {self.end:x} ebreak"] if self.end else []
         return [*self.lines, *after_last, *start_lines(self.labels), f"setpc {self.entry:x}"]
 
     def names(self) -> dict[str, list[str]]:
-        """Return the labels of each address, in hexadecimal digits."""
+        """Return the labels of each address that has some, by the address in hexadecimal digits."""
         names: dict[str, list[str]] = {}
         for label, address in self.labels.items():
             names.setdefault(f"{address:x}", []).append(label)
         return names
 
     def addresses(self) -> dict[int, int]:
-        """Return the address of the first instruction of each source line that has instructions."""
+        """Return the address of the first instruction of each source line that has instructions, by the line's number."""
         return {statement.line: statement.address for statement in reversed(self.statements)}
 
     def line_at(self, address: int) -> int:
@@ -93,13 +97,19 @@ class Program:
         return {f"{statement.address:x}": statement.line for statement in self.statements}
 
     def line_stops(self) -> dict[str, list[str]]:
-        """Return the breakpoint addresses of each source line that has instructions, by its number: the first instruction's address."""
+        """Return the address of a breakpoint for each source line that has instructions, by the line's number.
+
+        It is the address of the line's first instruction in hexadecimal digits, in a list of its own.
+        """
         return {f"{number}": [f"{address:x}"] for number, address in self.addresses().items()}
 
     def source_lines(self, text: str) -> dict[str, str]:
-        """Return the text after the labels of each source line that has instructions, by the address of its first instruction.
+        """Return the text of each source line that has instructions, without its labels.
 
-        If the line has no comment and the line above is only a comment, that comment is added.
+        The keys are the addresses of the lines' first instructions, in hexadecimal digits. If a line has no comment, and the line above
+        is only a comment, the text includes this comment.
+
+        text: the source
         """
         lines, first = ["", *text.split("\n")], dict[int, Statement]()
         for statement in self.statements:
@@ -126,7 +136,7 @@ class Program:
         return len(self.statements)
 
     def summary(self) -> str:
-        """Return a text with the number of instructions, the start address, and the number of bytes of data."""
+        """Return a text with the number of instructions, the entry address, and the number and the address of the bytes of data."""
         parts = [f"{self.size:,} instruction{'s' * (self.size != 1)}, from 0x{self.entry:x}"]
         pokes = [line.split() for line in self.lines if self.statements and line.startswith("poke ")]
         if pokes:
@@ -136,7 +146,10 @@ class Program:
 
 
 def assemble(text: str, origin: int = 0x10000, files: FileReader | None = None) -> Program:
-    """Assemble a source. Raises SourceError for a mistake. origin: the address of .text, a multiple of 4,096"""
+    """Assemble a source, and return the program. Raises SourceError for the first mistake.
+
+    origin: the address of .text, a multiple of 4,096; files: as in `read_source`
+    """
     program = read_source(text, origin, files)
     if program.mistakes:
         raise program.mistakes[0]
@@ -146,10 +159,12 @@ def assemble(text: str, origin: int = 0x10000, files: FileReader | None = None) 
 def read_source(
     text: str, origin: int = 0x10000, files: FileReader | None = None, most_made: int = MAX_CHARACTERS
 ) -> Program:
-    """Assemble a source that may have mistakes. The program has the statements of all parts without mistakes.
+    """Assemble a source that may have mistakes, and return the program, which lists them. It has all statements without mistakes.
 
+    origin: the address of .text, a multiple of 4,096
     files: reads the files of .include and .incbin; None to refuse these directives
-    most_made: the characters that calls and repetitions may make; beyond this limit, TooMuchMade is raised
+    most_made: the number of characters to which calls and repetitions may expand. If they exceed a limit below MAX_CHARACTERS,
+        TooMuchMade is raised
     """
     if origin % PAGE_BYTES or not 0 <= origin <= (1 << 48) - USER_PAGES * PAGE_BYTES:
         raise ValueError(f"{origin:#x} is no multiple of {PAGE_BYTES} with room for {USER_PAGES} pages below 2^48")
@@ -162,7 +177,7 @@ def read_source(
 
 
 def in_order(mistakes: Iterable[SourceError]) -> list[SourceError]:
-    """Return the first mistakes in the order of the source, at most one for each place and one for each undefined name."""
+    """Return the first mistakes in the order of the source: at most MAX_MISTAKES, one for each place and one for each undefined name."""
     places, names = dict[tuple[int, int], SourceError](), set[str]()
     for mistake in sorted(mistakes, key=lambda mistake: (mistake.line, mistake.column)):
         if mistake.name not in names:
@@ -172,7 +187,7 @@ def in_order(mistakes: Iterable[SourceError]) -> list[SourceError]:
 
 
 class _Assembler:
-    """Reads the statements of a source, and then returns the program. Parts that need addresses are completed at the end."""
+    """Reads the statements of a source, and then returns the program. `finish` completes the parts that need addresses."""
 
     def __init__(self, files: FileReader | None, most_made: int) -> None:
         self.assembly = Assembly(files)
@@ -180,14 +195,14 @@ class _Assembler:
         self._symbols, self._sections = self.assembly.symbols, self.assembly.sections
 
     def lines(self, text: str) -> Iterator[Line]:
-        """Yield the statements of a source. Each depends on the statements before it, which must have been read."""
+        """Yield the statements of a source. Call `read` with each statement before taking the next one, which may depend on it."""
         plain, error = without_comments(text.replace("\ufeff", " ", text.startswith("\ufeff")))  # a byte order mark
         if error:
             self.assembly.note(error)
         return self._blocks.expanded(statements(plain))
 
     def read(self, line: Line) -> None:
-        """Read the next statement."""
+        """Read the next statement. Mistakes in it are noted."""
         self.assembly.line = line
         section = self._sections.current
         plain = plain_instruction(line) if "x" in section.permissions and section.size % 4 == 0 else None
@@ -198,7 +213,7 @@ class _Assembler:
             self._read(tokens_of(line))
 
     def _put(self, plain: PlainInstruction) -> None:
-        """Add an instruction that depends only on its line, and the labels before it."""
+        """Add a plain instruction, and the labels before it. Mistakes are noted."""
         for label in plain.labels:
             with self.assembly.noting():
                 self._symbols.define(label.in_line(self.assembly.line.number), self.assembly.here())
@@ -240,7 +255,7 @@ class _Assembler:
             self._read_instruction(name, [self._symbols.bound(each) for each in split_operands(tokens[1:])])
 
     def _refuse_label(self, first: Token, second: Token) -> None:
-        """Note that a label can't consist of two words. Both words are defined, so that statements that use them have no mistake."""
+        """Note the mistake that a label consists of two words. Both words are defined, so that their uses aren't mistakes as well."""
         for word in (first, second):
             if word.kind is Kind.NAME and not self._symbols.is_defined(word.text):
                 self._symbols.define(word, self.assembly.here())
@@ -271,7 +286,7 @@ class _Assembler:
         self.assembly.put_instruction(name, operands, texts)
 
     def _go_on_in_text(self, name: Token) -> None:
-        """Note that an instruction is outside .text, and enter .text, so that the next instructions have no mistake."""
+        """Note the mistake that an instruction is outside .text, and enter .text, so that the next instructions aren't mistakes as well."""
         self.assembly.note(
             name.error(f"{name.text} is outside .text, where programs can't execute it: write .text before it")
         )
@@ -285,7 +300,10 @@ class _Assembler:
         return self._symbols.suggest(in_order(self._symbols.explained(each) for each in noted))
 
     def finish(self, origin: int) -> Program:
-        """Return the program with its text at the origin, or with its mistakes."""
+        """Give sections their bases, complete the parts that need addresses, and return the program.
+
+        origin: the address of .text
+        """
         assembly = self.assembly
         lines = [*self._sections.place(origin)]
         self._symbols.is_placed = True
@@ -311,14 +329,17 @@ class _Assembler:
 
 
 def _entry(labels: Mapping[str, int], statements: Sequence[Statement], text: int) -> int:
-    """Return the address where a program starts: _start, or main if it is an instruction, or the start of .text."""
+    """Return the address where a program starts: `_start`, or else `main` if an instruction is there, or else the start of .text.
+
+    text: the address of .text
+    """
     main = labels.get("main")
     is_function = main is not None and any(statement.address == main for statement in statements)
     return labels.get("_start", main if main is not None and is_function else text)
 
 
 def _checked_label(label: Token) -> Token:
-    """Return a label. Raises SourceError if it is neither a name nor a decimal number."""
+    """Return a label; a name in double quotes as a name without them. Raises SourceError for a token that can't be a label."""
     if label.kind is Kind.STRING:
         return replace(label, kind=Kind.NAME, text=label.string().decode("utf-8", "replace"))
     if label.kind is Kind.NAME or label.kind is Kind.NUMBER and label.text.isdecimal():

@@ -16,9 +16,10 @@ _UTF_16 = re.compile(r"(?:\udcff\udcfe|\udcfe\udcff|\ufffd\ufffd)?(?:(?:\0[^\0])
 
 
 def without_comments(text: str) -> tuple[str, SourceError | None]:
-    """Return a source with spaces in place of its comments, so that columns are unchanged, and the error of a comment without end.
+    """Return a source with spaces in place of its comments, so that columns don't change, and a mistake or None.
 
-    A byte order mark at the start also becomes a space. For a source in UTF-16, return an empty text and an error.
+    The mistake is a comment that doesn't end. A byte order mark at the start also becomes a space. For a source in UTF-16, return an
+    empty text and a mistake.
     """
     error: SourceError | None = None
     if _UTF_16.match(text):
@@ -39,7 +40,7 @@ def without_comments(text: str) -> tuple[str, SourceError | None]:
 
 
 def statements(text: str) -> Iterator[Line]:
-    """Yield the statements of a source without comments."""
+    """Yield the statements of a source from which comments were removed."""
     for number, line in enumerate(text.split("\n"), 1):
         yield from split_line(Line(line.removesuffix("\r"), number))
 

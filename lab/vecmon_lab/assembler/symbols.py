@@ -17,10 +17,8 @@ _NO_FUNCTIONS = {
     "t": "thread-local storage isn't in this machine",
     "": "those of this assembler are %hi, %lo, %pcrel_hi and %pcrel_lo",
 }
-MAX_DEPTH = 50  # the depth of constants that are defined by later ones
-MAX_EVALUATED = (
-    100_000  # tokens of such constants, each time that their value is needed before sections have their bases
-)
+MAX_DEPTH = 50  # the longest chain of constants, each of which is defined by a later one
+MAX_EVALUATED = 100_000  # the most tokens of such constants to evaluate before sections have their bases
 MAX_COMPARED = 200  # names that a missing one is compared with
 _CONTROL_REGISTERS = dict(read_table("keywords"))[r"csr\w*"].split()
 
@@ -73,9 +71,11 @@ class Symbols:
         self._values[name.text], self._lines[name.text] = here, name.line
 
     def assign(self, name: Token, operand: Operand, here: Value, is_once: bool = False) -> None:
-        """Give a name the value of an operand. Raises SourceError.
+        """Give a name the value of an operand. Raises SourceError if the name already has a value that may not be replaced.
 
-        The new value replaces one that `assign` gave the name, unless `is_once`: then it is an error if the name has a value.
+        A value that an earlier call of `assign` gave to the name is replaced, unless `is_once` is set.
+
+        here: the address of the statement, the value of a dot in the operand
         """
         if is_once or name.text not in self._versions:
             self._check_is_new(name)
@@ -93,7 +93,7 @@ class Symbols:
         self._versions[name.text], self._lines[name.text] = version, name.line
 
     def move(self, place: Value, destination: Value) -> None:
-        """Move the labels at a place to another one."""
+        """Give all labels with the address `place` the address `destination` instead."""
         self._found.clear()
         self._values |= {name: destination for name, value in self._values.items() if value == place}
 
@@ -108,11 +108,11 @@ class Symbols:
             raise name.error(f"{name.text} is defined in line {self._lines[name.text]} already")
 
     def is_defined(self, name: str) -> bool:
-        """Return whether the statements before this one define a name."""
+        """Return whether one of the statements that were read so far defines a name."""
         return name in self._values
 
     def bound(self, operand: Operand) -> Operand:
-        """Return an operand whose numeric labels and reassignable names are bound to their current meaning."""
+        """Return an operand with the current meaning of its numeric labels, such as `1b`, and of its names that may get new values."""
         return [self._bound(token) for token in operand]
 
     def _bound(self, token: Token) -> Token:
@@ -124,7 +124,10 @@ class Symbols:
         return token
 
     def note_high(self, operands: Sequence[Operand], here: Value) -> None:
-        """Note the symbol of %pcrel_hi in an instruction at `here`, for %pcrel_lo of the instruction's label."""
+        """Save the symbol of %pcrel_hi if an instruction's operands have one. %pcrel_lo of the instruction's label needs it.
+
+        here: the address of the instruction
+        """
         for operand in operands:
             texts = [token.text for token in operand[:3]]
             if texts == ["%", "pcrel_hi", "("] and len(operand) > 4:
@@ -139,7 +142,7 @@ class Symbols:
         ).value()
 
     def constant(self, operand: Operand, here: Value) -> int:
-        """Return the value of an operand that must be a number. Raises SourceError."""
+        """Return the value of an operand. Raises SourceError if it isn't a number that is known at this time."""
         value = self.evaluate(operand, here)
         if value.section is not None:
             raise operand[0].error("a number is needed here, and this is an address: la loads one into a register")
@@ -148,7 +151,10 @@ class Symbols:
         return value.resolved()
 
     def data(self, operand: Operand, here: Value, size: int) -> bytes:
-        """Return the value of an operand, signed or unsigned, in `size` bytes. Raises SourceError if it doesn't fit."""
+        """Return the value of an operand, signed or unsigned, as `size` bytes in little-endian order.
+
+        Raises SourceError if the value doesn't fit. Call this once sections have their bases.
+        """
         value, width = self.evaluate(operand, here).resolved(), 8 * size
         if not -(1 << width - 1) <= value < 1 << width:
             raise operand[0].error(f"{value} is out of range: {-(1 << width - 1)} to {(1 << width) - 1} fit")
@@ -188,7 +194,7 @@ class Symbols:
         return found
 
     def loop(self) -> DefinitionLoop | None:
-        """Return the error of the first constant that is defined by itself, or None. Sections must have their bases."""
+        """Return the error for the first constant that is defined by itself; None if there is none. Sections must have their bases."""
         for value in self._values.values():
             try:
                 if isinstance(value, _Later):
@@ -200,7 +206,7 @@ class Symbols:
         return None
 
     def suggest(self, mistakes: Sequence[SourceError]) -> list[SourceError]:
-        """Give undefined names in mistakes the nearest defined names as fixes, and return the mistakes.
+        """Set the fixes of mistakes about undefined names to the nearest defined names, and return all mistakes in the same order.
 
         A name is compared with at most MAX_COMPARED others, first those with the same first letter, then those of similar length.
         """
@@ -212,7 +218,7 @@ class Symbols:
         return [*mistakes]
 
     def explained(self, error: SourceError) -> SourceError:
-        """Return a mistake. If a name in it is defined later, the mistake names the line that defines it."""
+        """Return a mistake, or if it is about a name that a later line defines, a mistake that names this line instead."""
         line = self._lines.get(error.name, 0)
         if not line or not isinstance(error, UnknownName):
             return error
@@ -228,7 +234,10 @@ class Symbols:
         return UnknownName(token, message)
 
     def _function(self, name: Token, inner: Operand, here: Value) -> Value:
-        """Return the value of %hi, %lo, %pcrel_hi or %pcrel_lo of a symbol. Raises SourceError."""
+        """Return the value of %hi, %lo, %pcrel_hi or %pcrel_lo. Raises SourceError.
+
+        name: of the function; inner: the tokens between its parentheses; here: the address of the statement
+        """
         function = name.text.lower()
         if function not in ("hi", "lo", "pcrel_hi", "pcrel_lo"):
             reason = next(text for start, text in _NO_FUNCTIONS.items() if function.startswith(start))
@@ -254,7 +263,10 @@ def _difference(word: str, other: str) -> tuple[bool, int]:
 
 
 def _is_word(name: str) -> bool:
-    """Return whether a name in the table is that of a label or a constant, without a space: not a numeric label or an older version."""
+    """Return whether a key of the table of values is a label's or constant's name without spaces.
+
+    Other keys are for numeric labels, and for earlier values of a constant.
+    """
     return " " not in name and "\n" not in name
 
 

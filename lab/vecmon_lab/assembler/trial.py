@@ -1,4 +1,4 @@
-"""All mistakes of a source: those of form, and the instructions that the machine refuses. A vecmon process tries them."""
+"""All mistakes of a source: the mistakes that the assembler finds, and the instructions that a vecmon process refuses."""
 
 import contextlib
 import itertools
@@ -15,15 +15,15 @@ from .inputs import with_inputs
 from .instruction import Statement, with_fitting_operand
 from .source import Program, SourceError, in_order, read_source, refusal
 
-MAX_OPERANDS = 5  # operands of an instruction that are tried
-MAX_SCRIPT = 1_000_000  # bytes of a trial's script, after which another machine goes on
-MAX_ANSWERS = 100_000  # in the cache of a trial
+MAX_OPERANDS = 5  # the most wrong operands that are found in one instruction
+MAX_SCRIPT = 1_000_000  # the size of a trial's script in bytes, above which a new machine replaces the machine
+MAX_ANSWERS = 100_000  # the most answers in the cache of a trial
 
 
 def read_whole_source(
     text: str, vecmon: Vecmon, files: FileReader | None = None, most_made: int = MAX_CHARACTERS
 ) -> Program:
-    """Return the program of a source. If it has mistakes of form, add the instructions that the machine refuses to its mistakes.
+    """Return the program of a source. If the assembler finds mistakes, also try the instructions, and add those that the machine refuses.
 
     files, most_made: as in `read_source`
     """
@@ -34,13 +34,16 @@ def read_whole_source(
 def read_tried_source(
     text: str, vecmon: Vecmon, files: FileReader | None = None, most_made: int = MAX_CHARACTERS
 ) -> Program:
-    """Return the program of a source with all its mistakes, also those that only the machine finds."""
+    """Return the program of a source with all its mistakes: of instructions and commands that the machine refuses as well.
+
+    files, most_made: as in `read_source`
+    """
     program = with_inputs(read_source(text, files=files, most_made=most_made), text)
     return replace(program, mistakes=all_mistakes(program, vecmon) or refused_set_up(program, vecmon))
 
 
 def refused_set_up(program: Program, vecmon: Vecmon) -> list[SourceError]:
-    """Return a mistake for each command in `#>` lines that a new machine with the program refuses."""
+    """Load a program into a new machine, and return a mistake for each command of its `#>` lines that the machine refuses."""
     if not program.set_up:
         return []
     lines = [
@@ -57,13 +60,13 @@ def refused_set_up(program: Program, vecmon: Vecmon) -> list[SourceError]:
 
 
 def all_mistakes(source: Program, vecmon: Vecmon) -> list[SourceError]:
-    """Return the mistakes of form of a source and the instructions that a new machine refuses, in order."""
+    """Return the mistakes that the assembler found in a source, and those of instructions that a new machine refuses, in order."""
     with Trial(vecmon) as trial:
         return trial.mistakes(source)
 
 
 class Trial(contextlib.AbstractContextManager["Trial"]):
-    """A machine that tries instructions, and its answers by the instructions' texts, so that each text is tried once.
+    """A machine that tries instructions. It caches the answers by the instructions' texts, so that each text is tried once.
 
     An instruction's text has distances in place of labels, so its encoding is the same at each address.
     """
@@ -77,7 +80,7 @@ class Trial(contextlib.AbstractContextManager["Trial"]):
 
     @staticmethod
     def _started(vecmon: Vecmon) -> Session:
-        """Return a session with a page for the instructions."""
+        """Return a new session in which user 1 has a page for the instructions."""
         session = Session(vecmon)
         try:
             session.do_all(["1 enter", "1 map 0 1 rx"])
@@ -87,7 +90,10 @@ class Trial(contextlib.AbstractContextManager["Trial"]):
         return session
 
     def answers(self, texts: Iterable[str]) -> Mapping[str, Word | Refused]:
-        """Return the machine's answers by the texts of instructions: the word, or a refusal with the column."""
+        """Return the machine's answers by the instruction's text: the word, or a refusal with the column of the mistake.
+
+        They include answers for other texts that were tried before.
+        """
         if len(self._answers) > MAX_ANSWERS:
             self._answers = {}
         new = [text for text in dict.fromkeys(texts) if text not in self._answers]
@@ -103,7 +109,7 @@ class Trial(contextlib.AbstractContextManager["Trial"]):
         return self._answers
 
     def words(self, source: Program) -> dict[int, int]:
-        """Return the words of a program's instructions by address, without instructions that the machine refuses."""
+        """Return the words of a program's instructions by address. Instructions that the machine refuses are left out."""
         answers = self.answers(statement.text for statement in source.statements)
         return {
             statement.address: answer.word
@@ -112,13 +118,13 @@ class Trial(contextlib.AbstractContextManager["Trial"]):
         }
 
     def mistakes(self, source: Program) -> list[SourceError]:
-        """Return the mistakes of form of a source and the instructions that the machine refuses, in order.
+        """Return the mistakes that the assembler found in a source, and those of instructions that the machine refuses, in order.
 
         A refused instruction is tried again with a valid operand in place of the wrong one, to find further wrong operands.
         """
         mistakes = list(source.mistakes)
         refused = [(statement, statement, column) for statement, column in self._refused(source.statements)]
-        for _ in range(MAX_OPERANDS):  # each with its repair, and how it is in the source
+        for _ in range(MAX_OPERANDS):  # each round repairs one operand of each refused statement
             mistakes += [refusal(each, column, written.text) for each, written, column in refused]
             repaired = [(with_fitting_operand(each, column), written) for each, written, column in refused]
             written_as = {each: written for each, written in repaired if each}

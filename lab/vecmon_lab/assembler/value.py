@@ -10,12 +10,15 @@ from ..instructions.accesses import LINE_BYTES, PAGE_BYTES
 
 @dataclass(eq=False)
 class Section:
-    """A section: its permissions, its size so far, its base address, and functions that return its bytes at the end.
+    """A section of a source.
 
-    permissions: "" if it isn't loaded, as .note sections; zeros: whether it can have only zeros
-    alignment: of its base, in bytes
-    is_certain: whether its size since the last alignment is known; it isn't after a refused directive of unknown size
-    code_end: its size after its last instruction; 0 without an instruction
+    permissions: such as `rx`; "" if the section isn't loaded, such as .note sections
+    zeros: whether the section can have only zeros
+    size: the number of bytes so far; base: the address of the first byte, once sections have their bases
+    alignment: the number of bytes by which the base must be divisible
+    is_certain: whether the size since the last alignment is known. After a refused directive of unknown size, it isn't
+    code_end: the offset after the last instruction; 0 if there are no instructions
+    contents: functions that return bytes once sections have their bases, each after the offset of its first byte
     """
 
     permissions: str
@@ -25,14 +28,17 @@ class Section:
     alignment: int = 1
     is_certain: bool = True
     code_end: int = 0
-    contents: list[tuple[int, Callable[[], bytes]]] = field(default_factory=list)  # by offset; all else is zeros
+    contents: list[tuple[int, Callable[[], bytes]]] = field(default_factory=list)  # all other bytes are 0
 
     def pages(self) -> int:
-        """Return the number of pages that the section takes."""
+        """Return the number of pages that the section needs, if it starts at a page."""
         return -(-self.size // PAGE_BYTES)
 
     def pokes(self) -> Iterator[str]:
-        """Yield the lines that write the section's bytes, except lines that would only write zeros. Raises SourceError."""
+        """Yield the commands that write the section's bytes, except those that would write only zeros. Raises SourceError.
+
+        Call this once sections have their bases.
+        """
         runs: list[tuple[int, bytearray]] = []
         for offset, make in self.contents:
             if not runs or runs[-1][0] + len(runs[-1][1]) != offset:
@@ -46,7 +52,10 @@ class Section:
 
 
 class Value(NamedTuple):
-    """A number, or the sum of a number and of multiples of sections' base addresses."""
+    """A number, or the sum of a number and of multiples of sections' base addresses.
+
+    sections: the sections, each with the factor of its base address, such as 1 or -1
+    """
 
     number: int
     sections: tuple[tuple[Section, int], ...] = ()
@@ -67,7 +76,7 @@ class Value(NamedTuple):
         return sorted(count for _, count in self.sections) == [-1, 1]
 
     def plus(self, other: "Value", sign: int = 1) -> "Value":
-        """Return the sum of two values, or with sign -1 their difference."""
+        """Return the sum of two values; their difference if `sign` is -1."""
         total = Counter(dict(self.sections))
         for section, count in other.sections:
             total[section] += sign * count

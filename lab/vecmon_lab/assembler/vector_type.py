@@ -13,9 +13,11 @@ _DEFAULTS = ("e8", "m1", "tu", "mu")  # GNU as uses these for missing parts
 
 
 def completed(name: Token, operands: Sequence[Operand]) -> tuple[str, SourceError] | None:
-    """Return the template and the warning of a vsetvli or vsetivli whose vector type lacks parts.
+    """Return a template with all parts of the vector type, and a warning, for a vsetvli or vsetivli whose vector type lacks parts.
 
-    Return None for other instructions and for complete vector types.
+    Return None for other instructions, for complete vector types, and for operands that aren't parts in the right order.
+
+    name: the instruction; operands: all its operands
     """
     given = [operand[0].text if len(operand) == 1 else "" for operand in operands[2:]]
     if name.text not in ("vsetvli", "vsetivli") or not 0 < len(given) < len(PARTS):
@@ -30,7 +32,10 @@ def completed(name: Token, operands: Sequence[Operand]) -> tuple[str, SourceErro
 
 
 def _warning(name: Token, given: Sequence[Operand], places: Sequence[int]) -> SourceError:
-    """Return the warning about missing parts. It points at a part next to the first missing one; the fixes replace this part."""
+    """Return the warning about missing parts. It points at the part next to the first missing one, and its fixes replace this part.
+
+    given: the parts in the source; places: for each of them, which of the four parts it is, from 0 on
+    """
     missing = [_DEFAULTS[number] for number in range(4) if number not in places]
     first = min(number for number in range(4) if number not in places)
     token = given[max(first - 1, 0)][0]

@@ -12,7 +12,12 @@ from .words import LOAD, LOAD_FP, STORE, STORE_FP, VECTOR_ACCESSES, NoInstructio
 ACCESSES = (LOAD, STORE, *VECTOR_ACCESSES)  # opcodes of loads and stores
 UNIT_STRIDE, STRIDED = 0, 2  # mop; 1 and 3 are indexed
 WHOLE_REGISTERS, MASK, FAULT_ONLY_FIRST = 0b01000, 0b01011, 0b10000  # lumop and sumop
-REGISTER_BYTES, ROW_BYTES, LINE_BYTES, PAGE_BYTES = 32, 16, 256, 4096  # a line shows or writes LINE_BYTES of memory
+REGISTER_BYTES, ROW_BYTES, LINE_BYTES, PAGE_BYTES = (
+    32,
+    16,
+    256,
+    4096,
+)  # a command shows or writes at most LINE_BYTES of memory
 REGISTER_BITS = 8 * REGISTER_BYTES
 MULTIPLY_ADDS = ("vmacc", "vnmsac", "vmadd", "vnmsub", "vwmacc")  # the destination is also a source
 ACCUMULATES = (*MULTIPLY_ADDS, "vslideup", "vcompress")  # these read their destination
@@ -20,12 +25,12 @@ FIRST_ELEMENT = ("vred", "vwred", "vmv.s.x")  # these write only element 0
 _GATHERS = ("vrgather", "vslide")  # these read their source up to VLMAX
 
 Span = tuple[int, int]
-"""An address, and a number of bytes."""
+"""A span of memory: the address of the first byte, and the number of bytes."""
 
 
 @functools.lru_cache(maxsize=4096)
 def vector_instruction(word: int, vtype: int) -> VectorInstruction | None:
-    """Return the vector instruction that a word encodes under a vector type; None for scalar and invalid words."""
+    """Return the vector instruction that a word encodes under a vector type; None for a scalar instruction, a vset and an invalid word."""
     view = ControlRegisters(vtype=vtype)
     try:
         return decode(word, view.sew, view.lmul)
@@ -34,9 +39,9 @@ def vector_instruction(word: int, vtype: int) -> VectorInstruction | None:
 
 
 def stored_spans(word: int, x: Sequence[int], control: ControlRegisters, v: bytes) -> list[Span]:
-    """Return spans that contain the bytes that a store writes; none for other instructions.
+    """Return spans that contain all bytes that a store may write; none for other instructions.
 
-    Each span has at most 256 bytes, in one page. Masked-off elements are included, and elements after one that faults.
+    Each span has at most 256 bytes, in one page. The spans also contain masked-off elements, and elements after one that faults.
 
     x, control, v: the scalar registers, the control registers and the bytes of all vector registers, before the store
     """
@@ -58,9 +63,10 @@ def base_address(word: int, x: Sequence[int]) -> int | None:
 
 
 def active_spans(word: int, x: Sequence[int], control: ControlRegisters, v: bytes) -> Iterator[tuple[int, Span]]:
-    """Yield the index of each active element of a load or store, with the span that it accesses. A scalar access has element 0.
+    """Yield the index of each active element of a load or store, and the span that it accesses; nothing for other instructions.
 
-    Elements after one that faults are included, and elements that a fault-only-first load omits.
+    A scalar access has one element with index 0. Elements after one that faults are included, and so are elements that a
+    fault-only-first load omits.
 
     x, control, v: the registers before the instruction, as for `stored_spans`
     """
@@ -79,7 +85,7 @@ def is_fault_only_first(word: int) -> bool:
 
 
 def scalar_span(word: int, x: Sequence[int]) -> Span:
-    """Return the span that a scalar load or store accesses. x: the scalar registers before it"""
+    """Return the span that a scalar load or store accesses. x: the scalar registers before the instruction"""
     offset = (word >> 25 << 5 | word >> (7 if word & 0x7F == STORE else 20) & 31) ^ 0x800
     return (x[word >> 15 & 31] + offset - 0x800) % (1 << 64), 1 << (word >> 12 & 3)
 
@@ -87,7 +93,10 @@ def scalar_span(word: int, x: Sequence[int]) -> Span:
 def body_of(word: int, instruction: VectorInstruction, control: ControlRegisters) -> range:
     """Return the indices of an instruction's body elements, from vstart on. For a mask load or store, they are indices of bytes.
 
-    vmv.x.s reads element 0 for all values of vl and vstart; vmv.s.x writes it if vstart is less than vl (section 16.1).
+    The body of vmv.x.s is element 0 for all values of vl and vstart. The body of vmv.s.x is element 0 if vstart is less than vl
+    (section 16.1).
+
+    control: the control registers before the instruction
     """
     if instruction.name == "vmv.x.s":
         return range(1)
@@ -113,7 +122,7 @@ def _unit_stride_mode(word: int) -> int | None:
 
 
 def active_of(instruction: VectorInstruction, body: range, v: bytes) -> list[int]:
-    """Return the indices of the body elements that the mask selects. v: the bytes of the vector registers, starting with v0"""
+    """Return the indices of the body elements that aren't masked off. body: from `body_of`; v: the bytes of all vector registers"""
     if not instruction.leaves_out:
         return [*body]
     return [element for element in body if v[element // 8] >> element % 8 & 1]
@@ -122,7 +131,7 @@ def active_of(instruction: VectorInstruction, body: range, v: bytes) -> list[int
 def vector_spans(
     word: int, x: Sequence[int], control: ControlRegisters, v: bytes, instruction: VectorInstruction
 ) -> list[Span]:
-    """Return the span of each element of a vector load or store, or of each segment, from vstart on.
+    """Return the span of each body element of a vector load or store, or of each segment. The first span is that of element vstart.
 
     x, control, v: the registers before the instruction, as for `stored_spans`
     """
@@ -139,7 +148,7 @@ def vector_spans(
 
 
 def _joined(spans: Iterable[Span]) -> list[Span]:
-    """Return spans that contain the given spans, one in each block of 256 bytes that they touch."""
+    """Return rows of 16 bytes that contain all bytes of some spans, as spans. Each has rows of one block of 256 bytes."""
     ends = ((address // ROW_BYTES, (address + length - 1) // ROW_BYTES) for address, length in spans)
     rows = {row for first, last in ends for row in range(first, last + 1)}
     groups = [list(each) for _, each in itertools.groupby(sorted(rows), lambda row: row * ROW_BYTES // LINE_BYTES)]
@@ -147,15 +156,15 @@ def _joined(spans: Iterable[Span]) -> list[Span]:
 
 
 def bits_of(operand: Operand, vl: int) -> Iterator[int]:
-    """Yield, for each register of an operand, the number of its lowest bits that elements below vl occupy."""
+    """Yield, for each register of an operand, how many of the register's lowest bits belong to elements with an index below vl."""
     for at in range(len(operand.registers)):
         yield min(REGISTER_BITS, max(0, vl * operand.eew - REGISTER_BITS * (at % operand.group)))
 
 
 def needed(name: str, place: str, operand: Operand, vl: int) -> Iterator[int]:
-    """Yield, for each register of a source operand, the number of its lowest bits that an instruction reads.
+    """Yield, for each register of a source operand, how many of the register's lowest bits an instruction reads.
 
-    name: of the instruction; place: the operand's field
+    name: the instruction's name; place: the field of the operand, such as `vs2`
     """
     if operand.eew > 1 and (operand.is_whole or place == "vs2" and name.startswith(_GATHERS)):
         return iter([REGISTER_BITS] * len(operand.registers))

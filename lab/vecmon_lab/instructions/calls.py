@@ -13,7 +13,7 @@ SUPPORTED = "64 (write), 93 and 94 (exit) are"
 
 
 def is_supported(number: int, file: int) -> bool:
-    """Return whether the machine supports a call. number: in a7; file: in a0, which only matters for a write"""
+    """Return whether the machine supports a call. number: the value of a7; file: the value of a0, which matters only for a write"""
     return number in EXITS or (number, file) == (WRITE, STANDARD_OUTPUT)
 
 
@@ -42,7 +42,10 @@ def unsupported_call(x: Sequence[int]) -> str:
 
 @functools.cache
 def _systems() -> Mapping[str, Mapping[int, Sequence[str]]]:
-    """Return the calls of each system by number: the name or the effect; for RARS and Venus also the text to write here instead."""
+    """Return the calls of Linux, RARS and Venus: for each system, the texts about each call by the call's number.
+
+    For Linux the text is the call's name. For RARS and Venus there are two texts: the effect, and what to write here instead.
+    """
     systems: dict[str, dict[int, Sequence[str]]] = {"Linux": {}, "RARS": {}, "Venus": {}}
     for system, number, *cells in read_table("calls"):
         systems[system][int(number)] = cells

@@ -26,8 +26,10 @@ _X0_X0 = re.compile(r"vsetvli? x0, x0,")
 class Executed:
     """An instruction with the state before it, and the fault that it caused, if any.
 
-    text: the canonical text; x, control, v: the registers before it
-    cause: of the fault; None without a fault; element: the index of the element that faulted, for a vector access
+    text: the canonical text
+    x, control, v: the scalar registers, the control registers, and the bytes of all vector registers before the instruction
+    cause: the cause of the fault; None without a fault
+    element: the index of the element that faulted, for a vector access
     """
 
     word: int
@@ -42,7 +44,9 @@ class Executed:
 class OpenResult(NamedTuple):
     """A row of the table.
 
-    kind: of difference; pattern: matches the start of an instruction's text; sentence: explains the difference
+    kind: the kind of difference, such as `vl` or `trap`
+    pattern: a regular expression for the start of an instruction's text
+    sentence: an explanation of the difference
     """
 
     kind: str
@@ -61,7 +65,7 @@ def _rows() -> list[OpenResult]:
 
 
 def open_result(step: Executed) -> str | None:
-    """Return why a conforming device may execute an instruction with another result; None if the standard defines the result.
+    """Return why a conforming device may execute an instruction with another result, as a sentence; None if the standard defines it.
 
     Agnostic elements aren't considered, since a device's policy is known.
     """

@@ -16,7 +16,10 @@ ELEN = 64
 
 
 def illegal_reasons(word: int, view: ControlRegisters) -> list[str]:
-    """Return sentences that say why a word is illegal in a state, the most specific one first; none if it is legal."""
+    """Return sentences that say why a word is illegal in a state, the most specific one first; none if it is legal.
+
+    view: the control registers in this state, of which only vtype and vstart matter
+    """
     try:
         instruction = decode(word, view.sew, view.lmul)
     except NoInstruction as problem:
@@ -125,8 +128,9 @@ def describe_stop(
 ) -> str:
     """Return sentences that describe a stop, or an answer to `step`, `go`, `stop` or `state`.
 
-    word, text: the word at the program counter, and its canonical text
-    view: the vector state at the stop
+    where: the stop or the answer
+    word, text: the word at the program counter, None if unknown, and its canonical text, "" if unknown
+    view: the control registers at the stop; None if unknown. They are needed to say why an instruction is illegal
     end: the address of the ebreak after the program's last instruction; 0 if there is none or it is unknown
     """
     if where.what == "ebreak" and where.pc in (RETURN, end):
@@ -143,5 +147,5 @@ def describe_stop(
 
 
 def has_elements(where: ProgramState, word: int | None) -> bool:
-    """Return whether a stop is a fault of a vector load or store. word: the word at the stop, or None"""
+    """Return whether a stop is a fault of a vector load or store. word: the word at the program counter; None if unknown"""
     return where.cause in (5, 7) and word is not None and word & 0x7F in VECTOR_ACCESSES

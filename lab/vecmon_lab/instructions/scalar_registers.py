@@ -14,9 +14,9 @@ _CALLS = {93: (17, 10), 64: (17, 10, 11, 12)}  # registers that an exit and a wr
 
 
 def scalars_read(word: int, call: int = 0) -> Iterator[int]:
-    """Yield the numbers of the scalar registers that an instruction reads, except the one whose value it stores. x0 may be included.
+    """Yield the numbers of the scalar registers that an instruction reads, except the register whose value a store stores.
 
-    call: the value of x17
+    x0 may be among them. call: for an ECALL, the value of x17, the number of the call
     """
     opcode, funct3, rs1, rs2 = word & 0x7F, word >> 12 & 7, word >> 15 & 31, word >> 20 & 31
     if word == ECALL:

@@ -21,11 +21,11 @@ class Row:
         return int(self.bits[-7:], 2)
 
     def fields(self) -> list[str]:
-        """The operands' names: rd, rs1, rs2, vd, vs1 and vs2 for registers; imm, csr and others for numbers."""
+        """Return the operands' names: rd, rs1, rs2, vd, vs1 and vs2 for registers; imm, csr and others for numbers."""
         return re.findall(r"\b(?!v0\b)[a-z]+[0-9]?\b", self.operands.replace("v0.t", ""))
 
     def word(self, operands: int) -> int:
-        """Return the encoding with the row's fixed bits, and with the bits of `operands` in the operand fields."""
+        """Return the encoding of the instruction with some operands. operands: a word whose bits in the operand fields are used"""
         operand_bits = int(self.bits.replace("1", "0").replace("-", "1"), 2)
         return int(self.bits.replace("-", "0"), 2) | operands & operand_bits
 
@@ -38,7 +38,7 @@ ABI_NAMES = {number: name for name, number in reversed(REGISTERS.items())}  # x8
 
 @functools.cache
 def instruction_table() -> dict[str, Row]:
-    """Return the rows by name, in the page's order, without `.word`."""
+    """Return the rows by mnemonic, in the order of docs/INSTRUCTIONS.md. There is no row for `.word`."""
     rows = read_table("instructions")
     return {name: Row(name, operands.removeprefix("-"), bits.replace(" ", "")) for name, operands, bits in rows}
 
@@ -51,7 +51,7 @@ def row_of(word: int) -> Row | None:
 
 @functools.cache
 def _by_opcode() -> dict[int, list[tuple[int, int, Row]]]:
-    """Return the rows by opcode, each with the mask of its fixed bits, and with the values of these bits."""
+    """Return the rows by opcode. Before each row are the mask of its fixed bits, and the values of these bits."""
     rows: dict[int, list[tuple[int, int, Row]]] = {}
     for row in instruction_table().values():
         fixed = int(row.bits.replace("0", "1").replace("-", "0"), 2)

@@ -12,7 +12,7 @@ from ..instructions.table import ABI_NAMES
 from .formula import sext
 
 NumberForm = Literal["signed", "unsigned", "hexadecimal"]
-"""How a reader wants numbers. This decides the sign of numbers whose sign doesn't change the result."""
+"""The form in which a reader wants numbers. It decides the sign of numbers whose sign doesn't change the result."""
 
 
 class Sign(enum.Enum):
@@ -27,7 +27,7 @@ class Sign(enum.Enum):
 class Notation:
     """How numbers and names are written.
 
-    form: of numbers; hexadecimal numbers have 0x before their digits
+    form: the form of numbers; hexadecimal numbers have 0x before their digits
     has_abi_names: whether a scalar register is written as a0 instead of x10
     minus: the sign before negative numbers
     """
@@ -42,7 +42,11 @@ class Notation:
         return f"{self.minus}{digits}" if value < 0 else digits
 
     def taken(self, bits: int, width: int, sign: Sign) -> int:
-        """Return the number that bits represent. width: of the number in bits; 0 for a number without width, which is returned unchanged"""
+        """Return the number that bits represent.
+
+        bits: the bits as an unsigned number; width: the number of bits, or 0 for a number without width, which is returned unchanged
+        sign: how the formula interprets the bits
+        """
         has_sign = sign == Sign.SIGNED or sign == Sign.EITHER and self.form == "signed"
         return sext(bits, width) if has_sign and width > 1 else bits
 
@@ -54,12 +58,13 @@ class Term:
     name: `v4[5]`, `v0.mask[5]`, `memory[0x11004]`, `x11`, `sew`; for an immediate, its digits
     scalar: the number of a scalar register, whose ABI name may replace x11; None for other terms
     bits: the number's bits as an unsigned number; without a width, the number itself, which may be negative
-    width: in bits; 1 for a bit of a mask; 0 for an immediate or a number of the machine
+    width: the number's width in bits; 1 for a bit of a mask; 0 for an immediate, or for a number of the machine such as `sew`
     sign: how the formula interprets the bits
     function: the function around the name: `signed`, `unsigned`, `sext`, `zext`; or ""
     register, index: for an element of a vector register group, the group's first register and the element's index. A term that
     is an element's index has only `index`.
-    step: how many elements further the term is in the calculation of the next element: 1, or 0 for the same term; None if that varies
+    step: the distance from this term to the term at the same place in the calculation of the next element, in elements: 1; 0 if both
+        calculations use the same term; None if the distance varies
     """
 
     name: str
@@ -77,7 +82,7 @@ class Term:
         return notation.taken(self.bits, self.width, self.sign)
 
     def named(self, notation: Notation) -> str:
-        """Return the name as text."""
+        """Return the name as text, with the function around it, such as `signed(v4[5])`."""
         has_abi_name = self.scalar is not None and notation.has_abi_names
         name = ABI_NAMES[f"x{self.scalar}"] if has_abi_name else self.name.replace("-", notation.minus)
         is_unsigned = self.name.startswith("-") and self.value(notation) >= 0  # a negative immediate
@@ -126,7 +131,7 @@ class Calculation:
         return shown + (f", since {' and '.join(each.text(notation) for each in self.causes)}" if self.causes else "")
 
     def result_text(self, notation: Notation) -> str:
-        """Return the exact result, followed by the value in the target's bits if they differ."""
+        """Return the exact result. If the number in the target's bits differs from it, this number follows."""
         exact = self.results[notation.form != "signed"]
         bits, width = self.target.bits, self.target.width
         stored = notation.taken(bits, width, Sign.EITHER)
@@ -143,8 +148,8 @@ class Kept:
     """Why an element or a register kept its value, or became all ones.
 
     target: the element or register, with its bits after the instruction, and its width
-    cause: a text
-    is_ones: whether it is agnostic, and the policy `ones` set its bits
+    cause: the cause, as a clause without a full stop
+    is_ones: whether the element is agnostic, and the policy `ones` set its bits
     """
 
     target: Term
@@ -152,7 +157,7 @@ class Kept:
     is_ones: bool = False
 
     def text(self, notation: Notation = Notation()) -> str:
-        """Return the sentence."""
+        """Return a sentence with the target's name, its value and the cause."""
         name = self.target.named(notation)
         if self.is_ones:
             return f"{name} = {self.target.bits:#x}, all ones, since it is agnostic under policy ones: {self.cause}"

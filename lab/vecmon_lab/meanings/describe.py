@@ -17,7 +17,7 @@ _SHORT = ("a", "an", "the", "of", "to", "with", "in")  # words that a search ign
 _ENDING = re.compile(r"(?<=\w{4})(ing|ed|es|s|y|ies)$")  # an ending that a search ignores: `shifting` finds `Shifts`
 EXAMPLES = FOLDER.with_name("instruction_examples.txt")
 _CAUSES = {Trait.FROM_ZERO: "vstart isn't 0", Trait.BELOW_64: "SEW is 64"}  # why a word with a trait is illegal
-_LISTED = 12  # names in the result of a search, at most
+_LISTED = 12  # the most names in the result of a search
 
 
 @functools.cache
@@ -52,7 +52,7 @@ def example_lines(record: Record) -> list[str]:
 
 
 def operand_cells(row: Row) -> Iterator[tuple[str, str, str]]:
-    """Yield the place, EEW and EMUL of each vector register operand."""
+    """Yield the field, the EEW and the EMUL of each vector register operand, as texts such as `vd`, `2*SEW` and `2*LMUL`."""
     instruction = sample(row)
     for operand in instruction.operands if instruction else []:
         yield "vs3" if operand.noun == "data" else operand.place, _width(operand), _multiplier(operand)
@@ -63,7 +63,7 @@ def _width(operand: Operand) -> str:
 
 
 def _scaled(name: str, part: Fraction) -> str:
-    """Return the text of a multiple or a part of a named number."""
+    """Return the product of a part and a named number as text, such as `2*SEW` or `SEW/4`."""
     return f"{part}*{name}" if part > 1 else name if part == 1 else f"{name}/{part.denominator}"
 
 
@@ -76,7 +76,7 @@ def _multiplier(operand: Operand) -> str:
 
 
 def illegal_causes(row: Row) -> Iterator[str]:
-    """Yield the causes that make a vector instruction illegal, by its shape."""
+    """Yield the causes that can make a vector instruction illegal, as clauses; none for other instructions."""
     instruction = sample(row)
     if instruction is None:
         return
@@ -151,7 +151,10 @@ def scalar_note(row: Row, formula: str) -> str:
 
 
 def section_of(record: Record) -> str:
-    """Return the manual's section, with the manual unless it is the Unprivileged ISA or the V extension."""
+    """Return the section of the manual that describes a record's name.
+
+    The name of the manual follows, unless it is the Unprivileged ISA or the manual of the V extension.
+    """
     manual = extensions()[record.extension].manual if record.extension else ""
     return f"{record.section} of {manual}" if manual else record.section
 
@@ -178,7 +181,7 @@ def encoding_fields(row: Row) -> list[tuple[str, int]]:
     borders = (7, 12, 15, 20, 25, 26) if row.opcode in (OP_V, *VECTOR_ACCESSES) else (7, 12, 15, 20, 25)
 
     def field_of(bit: int) -> tuple[str, int]:
-        """Return the name of an operand's field, or the number of a field of fixed bits."""
+        """Return what all bits of a field have in common: the field's name and 0, or for fixed bits "" and the field's number."""
         return (_mark(row, own, bit), 0) if row.bits[31 - bit] == "-" else ("", bisect.bisect(borders, bit))
 
     fields = [(name, list(bits)) for (name, _), bits in itertools.groupby(range(31, -1, -1), field_of)]
@@ -186,7 +189,10 @@ def encoding_fields(row: Row) -> list[tuple[str, int]]:
 
 
 def _mark(row: Row, own: Mapping[int, str], bit: int) -> str:
-    """Return the name of the field that a bit of an operand belongs to. own: names of registers, by the lowest bit of their field"""
+    """Return the name of the operand field that contains a bit.
+
+    own: the names of the fields of registers, by the lowest bit of the field
+    """
     if bit == 25 and "[, v0.t]" in row.operands:
         return "vm"
     low = next((low for low in (7, 15, 20) if low <= bit < low + 5), -1)
@@ -216,8 +222,8 @@ def found(words: str) -> list[Record]:
 def _rank(record: Record, search_words: Sequence[str]) -> int:
     """Return the rank of a record in a search.
 
-    It is 0 if each search word starts a word of its name or sentence; 1 if some are inside a word, as `sign` in `unsigned`;
-    otherwise 2.
+    The rank is 0 if the name and the sentence of the record have a word that starts with each search word; 1 if they contain all
+    search words, but some only inside a word, such as `sign` in `unsigned`; and otherwise 2.
     """
     sentence = f"{record.name} {record.does}".lower()
     if all(re.search(rf"\b{re.escape(word)}", sentence) for word in search_words):
@@ -226,7 +232,7 @@ def _rank(record: Record, search_words: Sequence[str]) -> int:
 
 
 def search_lines(words: str) -> list[str]:
-    """Return a line for each record that a search finds."""
+    """Return a line for each of the first records that a search finds, and a line with the number of the others, if there are any."""
     every = found(words)
     lines = [f"{it.name}: {it.does}" for it in every[:_LISTED]]
     return [*lines, f"and {len(every) - _LISTED} more: add a word"] if len(every) > _LISTED else lines

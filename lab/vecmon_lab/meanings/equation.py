@@ -10,7 +10,7 @@ from .calculation import Calculation, Condition, Part, Sign, Term
 from .executed import Execution, Numbers, Shared, execution_of
 from .formula import Assignment, Formula, Names, elements_in, evaluate, evaluate_each
 
-MAX_TERMS = 8  # elements in the longest list that is shown completely
+MAX_TERMS = 8  # the number of elements in the longest list that is shown completely
 _PLACE = re.compile(
     r"\b_(\d+)\b"
 )  # a term's placeholder in the text of a formula; no name of the language has this form
@@ -34,9 +34,11 @@ def calculation_of(execution: Execution, target: Term, assignment: Assignment) -
 def calculation_of_each(
     execution: Execution, target: Term, assignment: Assignment, elements: Sequence[int]
 ) -> tuple[Calculation, list[tuple[int, int]]]:
-    """Return the calculation for the first of several elements with the same form, and the exact results of all of them.
+    """Return the calculation of the first of several elements, and the exact results of all of them, as `Calculation.results`.
 
-    The execution's current element must be the first one. target: the first element, with its bits after the instruction
+    The calculations of the elements must have the same form. The execution's current element must be the first of them.
+
+    target: the first element, with its bits after the instruction; elements: the indices of the elements
     """
     reader = Reader(execution, assignment.value, target.width)
     node, causes = reader.chosen(assignment.value)
@@ -45,7 +47,12 @@ def calculation_of_each(
 
 
 def branches_of(node: ast.expr, names: Names, elements: Sequence[int]) -> Iterator[tuple[ast.expr, Sequence[int]]]:
-    """Yield the branches of a conditional expression that some elements select, each with these elements."""
+    """Yield the branches of a conditional expression that elements select, each with the indices of the elements that select it.
+
+    A branch that no element selects is left out. If the expression isn't conditional, yield the expression with all elements.
+
+    node: the expression; names: the values of the names in it, except `i`; elements: the indices of elements, the values of `i`
+    """
     if not isinstance(node, ast.IfExp):
         yield node, elements
         return
@@ -66,7 +73,7 @@ def formula_parts(execution: Execution) -> tuple[Part, ...]:
 
 
 def sentence_parts(execution: Execution) -> tuple[Part, ...]:
-    """Return the sentence of an instruction's record with its own operands in backquotes; the terms are scalar registers."""
+    """Return the sentence of an instruction's record, with the instruction's own operands in backquotes. The terms are scalar registers."""
     names, terms = execution.names, list[Term]()
 
     def operand(found: re.Match[str]) -> str:
@@ -137,7 +144,7 @@ def _bracketed(digits: str) -> str:
 
 
 def _parts_of(text: str, terms: Sequence[Term]) -> tuple[Part, ...]:
-    """Return a text as parts. Its placeholders become terms."""
+    """Return a text as parts. Each placeholder in the text becomes the term with its number."""
     texts = _PLACE.split(text)
     parts = [terms[int(part)] if place % 2 else part for place, part in enumerate(texts)]
     return tuple(part for part in parts if part != "")
@@ -151,14 +158,17 @@ class Reader:
     """
 
     def __init__(self, execution: Execution, value: ast.expr, width: int) -> None:
-        """value: the whole formula; width: of its target in bits, 0 if it has no width"""
+        """value: the whole right side of the formula; width: the width of its target in bits, 0 for a target without width"""
         self._execution, self._names = execution, execution.names.copy()
         word, vtype = execution.before.word, execution.before.control.vtype
         self._free = _free_terms(value, width if width > 1 else _NO_WIDTH, execution.formula, word, vtype)
         self._mixed = _mixed(value)
 
     def chosen(self, node: ast.expr) -> tuple[ast.expr, list[Condition]]:
-        """Return the branch of a conditional expression that is selected, and the conditions that select it."""
+        """Return the branch of a conditional expression that the current element selects, and the conditions that select it.
+
+        For another expression, return the expression itself and no conditions.
+        """
         causes = list[Condition]()
         while isinstance(node, ast.IfExp):
             holds = bool(evaluate(node.test, self._names))
@@ -167,9 +177,9 @@ class Reader:
         return node, causes
 
     def results(self, node: ast.expr, elements: Sequence[int]) -> list[tuple[int, int]]:
-        """Return the exact values for elements, as pairs.
+        """Return the exact value of an expression for each element, as a pair.
 
-        In the first value, terms whose sign doesn't matter are signed numbers; in the second one they are unsigned.
+        For the pair's first value, terms whose sign doesn't matter are signed numbers; for its second value, they are unsigned.
         """
         unsigned = evaluate_each(node, self._names, elements)
         if not self._free:
@@ -217,7 +227,7 @@ class Reader:
         return Term(name, value, numbers.width, sign, scalar, function, numbers.register, place, step)
 
     def _list(self, slot: "_ListSlot") -> Iterator[Part]:
-        """Yield the parts of a function with a list among its arguments. For a sum, they are the numbers to add."""
+        """Yield the parts of a function call. For a sum, they are the numbers to add, with plus signs between them."""
         separator = " + " if slot.name == "sum" else ", "
         arguments = [part for each in slot.arguments for part in self._arguments(*each, separator)]
         if slot.name == "sum":
@@ -225,9 +235,11 @@ class Reader:
         return iter([f"{slot.name}(", *arguments[1:], ")"])
 
     def _arguments(self, slots: "Slots", loop: ast.comprehension | None, separator: str) -> Iterator[Part]:
-        """Yield the parts of an argument, each after a separator.
+        """Yield a separator and the parts of an argument.
 
-        For a list, they are the parts for each of its elements; of a long list, some are omitted. loop: the list, or None
+        If the argument is a list, do this for each number in the list; for some numbers of a long list, yield "..." instead.
+
+        slots: the argument, or the expression for a number in the list; loop: the loop over the list; None for another argument
         """
         if loop is None:
             yield from (separator, *self._filled(slots))
@@ -247,7 +259,7 @@ class _Slot:
     """The place of a term in an expression.
 
     node: an element, a scalar register, memory, or the name of a number
-    sign, function: the term's
+    sign, function: the sign and the function of the term
     """
 
     node: ast.expr
@@ -257,7 +269,10 @@ class _Slot:
 
 @dataclass(frozen=True)
 class _ListSlot:
-    """The place of a function with a list among its arguments. arguments: each with the list that it iterates over, or None"""
+    """The place of a function call.
+
+    arguments: the slots of each argument, with the loop over a list if the argument is a list, or None
+    """
 
     name: str
     arguments: tuple[tuple["Slots", ast.comprehension | None], ...]
@@ -283,7 +298,7 @@ class _SlotWriter:
         self._free, self._mixed = free, mixed
 
     def shown(self, node: ast.expr) -> ast.expr:
-        """Return an expression with placeholders for slots."""
+        """Return an expression with placeholders in place of its terms, and add a slot for each term to `slots`."""
         match node:
             case ast.Call(ast.Name(name), [ast.Subscript() as term]) if name in _CONVERSIONS:
                 return self._place(_Slot(term, Sign.UNSIGNED if name == "zext" else Sign.SIGNED, name))
@@ -297,7 +312,7 @@ class _SlotWriter:
         return _changed(node, self.shown)
 
     def _argument(self, node: ast.expr) -> tuple[Slots, ast.comprehension | None]:
-        """Return the slots of a function's argument; for a list, those of its element, and the list."""
+        """Return the slots of a function's argument and None; for a list, the slots of its element and the loop over the list."""
         element, loop = (node.elt, node.generators[0]) if isinstance(node, ast.GeneratorExp) else (node, None)
         return _slots_of(element, self._free, self._mixed), loop
 
@@ -321,7 +336,7 @@ def _joined(parts: Iterable[Part]) -> tuple[Part, ...]:
 def _free_terms(value: ast.expr, width: int, formula: Formula, word: int, vtype: int) -> frozenset[int]:
     """Return the `id`s of the terms whose sign doesn't matter.
 
-    They depend only on the word and the vector type, which determine the widths of numbers.
+    They depend only on the word and the vector type, which determine the widths of numbers. width: the target's width in bits
     """
     return frozenset(id(node) for node in _free(value, width, execution_of(word, vtype, formula).names))
 
@@ -336,7 +351,7 @@ def _with_signs(node: ast.expr, free: frozenset[int]) -> ast.expr:
 
 @functools.lru_cache(maxsize=1024)
 def _step(index: ast.expr) -> int | None:
-    """Return by how much an operand's index increases for the result's next element; None if that varies."""
+    """Return the number by which an operand's index increases from one element of the result to the next; None if it varies."""
     parts = list(ast.walk(index))
     if not any(isinstance(part, ast.Name) and part.id == "i" for part in parts):
         return 0
@@ -355,7 +370,10 @@ def numbers_of(node: ast.Subscript, names: Names) -> Numbers:
 
 
 def _changed(node: ast.expr, change: Callable[[ast.expr], ast.expr]) -> ast.expr:
-    """Return a copy of an expression with its parts changed. Names of functions and indexed objects stay the same."""
+    """Return a copy of an expression, in which each part is the result of `change` for the part.
+
+    The names of functions and of indexed objects stay the same.
+    """
 
     def value(each: object) -> object:
         if isinstance(each, ast.comprehension):
@@ -391,7 +409,7 @@ def _free(node: ast.expr, width: int, names: Names) -> Iterator[ast.expr]:
 
 
 def _compared(node: ast.expr, names: Names) -> Iterator[ast.expr]:
-    """Yield the terms of a comparison for equality, if both have the same width."""
+    """Yield both terms of a comparison for equality if they have the same width, so that their sign doesn't matter."""
     match node:
         case ast.Compare(ast.Subscript() as one, [ast.Eq() | ast.NotEq()], [ast.Subscript() as other]):
             if numbers_of(one, names).width == numbers_of(other, names).width > 1:

@@ -45,7 +45,7 @@ _CONTROL_FIELDS = {  # fields of writable control registers, by number: the lowe
 
 @dataclass(eq=False)
 class NoAccess(Exception):
-    """Memory doesn't permit an access."""
+    """Memory doesn't permit an access, or a jump, to an address."""
 
     address: int
 
@@ -56,8 +56,8 @@ class Before:
 
     v: the bytes of all vector registers
     has_ones: whether agnostic elements become ones
-    read: returns the bytes of memory at an address, by address and count; None if any of them can't be read
-    can_write: returns whether bytes of memory can be written, by address and count
+    read: takes an address and a number of bytes; returns these bytes of memory, or None if any of them can't be read
+    can_write: takes an address and a number of bytes; returns whether all these bytes of memory can be written
     """
 
     pc: int
@@ -89,9 +89,9 @@ class After:
 class Numbers:
     """Numbers by index: a register group, the scalar registers, or memory.
 
-    name: `v4`, `x`, `memory`
-    width: of each number in bits
-    register: the number of the group's first vector register; None for other numbers
+    name: `v4`, `x` or `memory`
+    width: the width of each number in bits
+    register: the number of the group's first vector register; None if the numbers aren't vector elements
     """
 
     def __init__(self, name: str, width: int, at: Callable[[int], Bits], register: int | None = None) -> None:
@@ -99,7 +99,7 @@ class Numbers:
 
     @property
     def mask(self) -> "Numbers | None":
-        """The bits of a vector register, by their index; None for other numbers."""
+        """The bits of the vector register, by their index; None if the numbers aren't vector elements."""
         return None
 
     def __getitem__(self, number: int) -> Bits:
@@ -114,7 +114,7 @@ class Numbers:
         return f"x{index}" if self.name == "x" else f"{self.name}[{index}]"
 
     def scalar_of(self, index: int) -> int | None:
-        """Return the number of the scalar register that an index names; None for other numbers."""
+        """Return the number of the scalar register at an index; None if the numbers aren't scalar registers."""
         return index if self.name == "x" else None
 
 
@@ -122,7 +122,11 @@ class Elements(Numbers):
     """The elements of a vector register group, and of the registers after it."""
 
     def __init__(self, v: bytes, register: int, width: int, count: int = 1) -> None:
-        """register: the number of the first register; width: of an element in bits; count: of the group's registers"""
+        """Create the elements.
+
+        v: the bytes of all vector registers; register: the number of the group's first register
+        width: the width of an element in bits; count: the number of registers in the group
+        """
         super().__init__(f"v{register}", width, functools.partial(element_of, v, register, width), register)
         self._v, self._first, self._bits = v, register, bits_type(width)
         self._count = min(count, REGISTERS - register) * REGISTER_BITS // width
@@ -162,7 +166,10 @@ class Memory(Numbers):
 
 
 class Shared(Numbers):
-    """A scalar register or an immediate that all elements share. scalar: the number of the register; None for an immediate"""
+    """A scalar register or an immediate that takes part in the calculation of each element.
+
+    scalar: the number of the register; None for an immediate
+    """
 
     def __init__(self, name: str, value: Bits, scalar: int | None) -> None:
         super().__init__(name, value.width, lambda _: value)
@@ -182,7 +189,11 @@ class Shared(Numbers):
 
 
 def element_of(v: bytes | bytearray, register: int, width: int, number: int) -> Bits:
-    """Return an element of a register group as an unsigned number; with width 1, a bit of a mask. Raises LabError."""
+    """Return an element of a register group as an unsigned number. Raises LabError if there is no such element.
+
+    v: the bytes of all vector registers; register: the number of the group's first register
+    width: the width of an element in bits, 1 for a mask; number: the index of the element
+    """
     at = register * REGISTER_BITS + number * width
     if number < 0 or at + width > 8 * len(v):
         raise LabError(f"there is no element {number}")
@@ -203,14 +214,17 @@ def _memory(before: Before, width: int) -> Numbers:
 class Execution:
     """An instruction in a state: its record and formula, its elements, and the values of names in the formula.
 
-    target: the assignment to the place that the instruction writes
-    is_single: whether it writes only one element of the destination register; the other elements are the tail
-    body, active: the indices of elements from vstart on, and of those among them that aren't masked off
+    target: the first assignment of the formula
+    is_single: whether the instruction writes only one element of its destination register; the other elements are the tail
+    body: the indices of the elements from vstart to the end of the body
+    active: the indices of the elements of the body that aren't masked off
     operand: the vector register group in the field vd: the destination, or the data of a store; None if there is none
     fields: the number of fields in a segment; 1 if there are no segments
-    width: of an element that is written, loaded or stored, in bits
-    scalar: the number of the scalar register in place of vs1; None for another operand there
+    width: the width in bits of an element that is written, loaded or stored
+    scalar: the number of the scalar register that the form has in place of vs1; None for forms without a scalar register
     is_fault_only_first: whether it is a load that reduces vl if an element after the first can't be read
+    is_saturated: whether an evaluated formula has limited a number to the range of its target
+    names: the values of names in the formula, for the current element
     """
 
     def __init__(self, before: Before, formula: Formula | None = None) -> None:
@@ -254,7 +268,10 @@ class Execution:
         return evaluate(assignment.value, self.names)
 
     def at(self, element: int, number: int = 0) -> None:
-        """Set the current element, and the current field of a segment, for the values of names."""
+        """Set the current element, to which the values of names apply.
+
+        element: the element's index; number: the number of the segment's field, 0 without segments
+        """
         self.names["i"], self.names["f"] = element, number
         if self.operand and self.fields > 1:
             register = self.operand.registers.start + number * self.operand.group
@@ -272,7 +289,10 @@ class Execution:
         return self.record.kept is not None and bool(evaluate(self.record.kept, self.names))
 
     def outcome(self, element: int) -> ElementOutcome:
-        """Return the outcome of an element of the destination. Faults and a reduced vl aren't considered."""
+        """Return the outcome of an element of the destination, and make it the current element if it is in the body.
+
+        Faults and a reduced vl aren't considered. element: the element's index
+        """
         control, body = self.before.control, self.body
         if self.is_single:
             body = range(control.vl > control.vstart)
@@ -336,18 +356,20 @@ class Execution:
 
 
 def execution_of(word: int, vtype: int, formula: Formula | None = None) -> Execution:
-    """Return an instruction in a state with all registers 0, for properties that depend only on the word and the vector type.
+    """Return an execution of a word in a state with all registers 0.
 
-    formula: to use in place of the record's. Raises LabError as `Execution`.
+    It is for properties that depend only on the word and the vector type. Raises LabError as `Execution` does.
+
+    formula: the formula to use in place of the record's; None for the record's
     """
     v, control = bytes(REGISTERS * REGISTER_BYTES), ControlRegisters(vtype=vtype)
     return Execution(Before(0, word, [0] * 32, control, v, False), formula)
 
 
 def execute(before: Before, formula: Formula | None = None) -> After:
-    """Return the state after an instruction, by its formula. Raises LabError if it has none.
+    """Execute an instruction by its formula, and return the state after it. Raises LabError if the word has no formula.
 
-    formula: to use in place of the record's
+    formula: the formula to use in place of the record's; None for the record's
     """
     execution = Execution(before, formula)
     after = After(before.pc + 4 & WORD, before.control, bytearray(before.v))
@@ -366,7 +388,7 @@ def execute(before: Before, formula: Formula | None = None) -> After:
 
 
 def _execute_once(execution: Execution, after: After) -> None:
-    """Execute the assignments that aren't for each element. Raises NoAccess."""
+    """Execute an instruction that isn't executed element by element, and write its results to `after`. Raises NoAccess."""
     before = execution.before
     for assignment in execution.formula.assignments:
         value = execution.value(assignment) & WORD
@@ -388,7 +410,10 @@ def _execute_once(execution: Execution, after: After) -> None:
 
 
 def _execute_elements(execution: Execution, after: After, operand: Operand) -> None:
-    """Execute an instruction element by element, from vstart on. Raises NoAccess."""
+    """Execute an instruction element by element, from vstart on, and write its results to `after`. Raises NoAccess for a fault.
+
+    operand: the destination, or the data of a store
+    """
     for element in execution.active if not execution.is_single else range(1):
         if execution.outcome(element) != ElementOutcome.RESULT:
             continue
@@ -405,7 +430,7 @@ def _execute_elements(execution: Execution, after: After, operand: Operand) -> N
 
 
 def _execute_element(execution: Execution, after: After, operand: Operand, element: int) -> None:
-    """Write an element, or the elements of all fields of a segment. Raises NoAccess before any of them is written."""
+    """Write one element, or the element of each field of a segment, to `after`. Raises NoAccess before any of them is written."""
     values = list[tuple[int, int]]()
     for number in range(execution.fields):
         execution.at(element, number)
@@ -419,7 +444,10 @@ def _execute_element(execution: Execution, after: After, operand: Operand, eleme
 
 
 def _write(execution: Execution, after: After, operand: Operand, number: int, place: int, value: int) -> None:
-    """Write an element of a field, or a bit of a mask, which is set unless the value is 0."""
+    """Write an element, or a bit of a mask, to the vector registers of `after`. A bit of a mask is set unless the value is 0.
+
+    number: the number of the segment's field, 0 without segments; place: the index of the element or bit
+    """
     width = 1 if execution.target.kind == "mask" else execution.width
     at = (operand.registers.start + number * operand.group) * REGISTER_BITS + place * width
     part, ones = slice(at // 8, (at + width + 7) // 8), (1 << width) - 1
@@ -429,7 +457,10 @@ def _write(execution: Execution, after: After, operand: Operand, number: int, pl
 
 
 def agnostic(execution: Execution, outcome: ElementOutcome) -> bool:
-    """Return whether an element with this outcome becomes ones."""
+    """Return whether an element with an outcome becomes all ones.
+
+    It does if the policy is `ones`, the destination isn't a mask, and vtype makes elements with this outcome agnostic.
+    """
     operand, vtype = execution.operand, execution.before.control.vtype
     if not execution.before.has_ones or operand is None or operand.noun != "destination" or operand.eew == 1:
         return False
@@ -437,7 +468,7 @@ def agnostic(execution: Execution, outcome: ElementOutcome) -> bool:
 
 
 def _set_ones(execution: Execution, after: After, operand: Operand, stop: int, has_tail: bool) -> None:
-    """Set agnostic elements to ones: masked-off elements below `stop`, and the tail if `has_tail`."""
+    """Set agnostic elements of the destination to ones: masked-off elements with an index below `stop`, and the tail if `has_tail`."""
     if not any(agnostic(execution, outcome) for outcome in _AGNOSTIC):
         return
     for element in range(operand.group * REGISTER_BITS // operand.eew):
@@ -448,7 +479,7 @@ def _set_ones(execution: Execution, after: After, operand: Operand, stop: int, h
 
 
 def _stored(execution: Execution, address: int, value: int, width: int) -> dict[int, int]:
-    """Return the bytes of a store, by address. Raises NoAccess."""
+    """Return the bytes that a store writes, by address. Raises NoAccess if memory doesn't permit the store. width: in bits"""
     address &= WORD
     if not execution.before.can_write(address, width // 8):
         raise NoAccess(address)
@@ -488,13 +519,16 @@ def _control_value(control: ControlRegisters, number: int) -> int:
 
 
 def _with_control_value(control: ControlRegisters, number: int, value: int) -> ControlRegisters:
-    """Return the control registers after a write to one. Read-only ones are unchanged."""
+    """Return the control registers after a value is written to one of them. A read-only register doesn't change.
+
+    number: the number of the written register, such as 0x00F for vcsr
+    """
     fields = _CONTROL_FIELDS.get(number, {})
     return replace(control, **{name: value >> low & limit for name, (low, limit) in fields.items()})
 
 
 def _requested(before: Before) -> dict[str, object]:
-    """Return the values of the names that describe the request of a vset instruction."""
+    """Return the values of the formula names that only vset instructions use, such as `avl` and `type`."""
     word, x, control = before.word, before.x, before.control
     rd, rs1, has_immediate = word >> 7 & 31, word >> 15 & 31, word >> 30 == 3
     requested = word >> 20 & 0x3FF if has_immediate else word >> 20 & 0x7FF if not word >> 31 else x[word >> 20 & 31]

@@ -41,15 +41,15 @@ def extension_of(name: str) -> Extension:
 
 @functools.cache
 def names_lacked_by(tool: str) -> frozenset[str]:
-    """Return the mnemonics whose extension a tool lacks, `as` or `qemu`."""
+    """Return the mnemonics of the instructions whose extension a tool doesn't support. tool: `as` or `qemu`"""
     return frozenset(name for name in instruction_table() if tool in extension_of(name).lacked_by)
 
 
 @functools.cache
 def added_archs(tool: str = "") -> tuple[str, ...]:
-    """Return the `-march` names of the extensions that the machine has in addition to those of each image.
+    """Return the `-march` names of the machine's extensions, except those for which all images are compiled.
 
-    tool: `as` or `qemu`, to omit the extensions that the tool lacks; empty to include all
+    tool: `as` or `qemu`, to omit the extensions that this tool doesn't support; empty to include all
     """
     used = {extension_of(name).name for name in instruction_table()}
     return tuple(it.arch for it in extensions().values() if it.name in used and it.arch and tool not in it.lacked_by)

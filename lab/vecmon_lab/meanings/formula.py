@@ -110,7 +110,7 @@ def remainder(value: int, divisor: int) -> int:
 
 
 def nth(number: int, values: Iterable[int]) -> int:
-    """Return the number at an index of a list."""
+    """Return the number at an index of a list. number: the index; values: the list"""
     return list(values)[number]
 
 
@@ -131,7 +131,10 @@ FUNCTIONS: Mapping[str, Callable[..., int]] = {
     },
 }
 CLIPS = ("clip", "clipu")
-"""Functions for the nearest number that the target, signed or unsigned, can represent. If it differs, vxsat becomes 1."""
+"""Functions that return the nearest number that the target can represent: `clip` as a signed, `clipu` as an unsigned number.
+
+If this number differs from the argument, vxsat becomes 1.
+"""
 
 _EACH = "_numbers"  # the name of the numbers in `evaluate_each`; no name of the language starts with `_`
 _CALLABLE, _INDEXED = (*FUNCTIONS, *CLIPS, "range"), (*OPERANDS, *MEMORIES, "x")
@@ -147,6 +150,7 @@ class Assignment:
     kind: `element`, `mask`, `x`, `memory`, `pc`, `vl`, `vtype` or `csr`
     width: of an access to memory, in bits; 0 for the width of an element
     place: the index of the target; the target's name if it has no index
+    value: the formula's expression after the `=`
     target: the formula's expression before the `=`
     """
 
@@ -183,7 +187,7 @@ def read_formula(text: str) -> Formula:
 
 
 def scope(names: Mapping[str, object]) -> Names:
-    """Return names with the functions of the language."""
+    """Return a dictionary with `names`, and with the functions of the language, in which a formula can be evaluated."""
     return {**_LANGUAGE, **names}
 
 
@@ -200,9 +204,10 @@ class Indexed(Protocol):
 
 
 def evaluate_each(node: ast.expr, names: Names, numbers: Sequence[int], name: str = "i") -> list[int]:
-    """Return the value of a part of a formula, once for each value of one of its names.
+    """Evaluate a part of a formula for several values of one of its names, and return the results in the same order.
 
-    numbers: the values of this name, such as the indices of elements
+    name: the name with several values; numbers: its values, such as the indices of elements
+    names: the values of all other names
     """
     code, columns = _code_of_each(node, name)
     values = {**names, _EACH: numbers, "zip": zip}
@@ -213,7 +218,7 @@ def evaluate_each(node: ast.expr, names: Names, numbers: Sequence[int], name: st
 
 
 def condition(text: str) -> ast.expr:
-    """Parse a condition. Raises LabError."""
+    """Parse a condition in the language of formulas. Raises LabError if it isn't in the language."""
     return _checked(text, text)
 
 
@@ -225,7 +230,10 @@ def _code(node: ast.expr) -> CodeType:
 
 @dataclass(frozen=True)
 class _Column:
-    """An operand's numbers, signed or unsigned, at each index of a list. operand, indices: the names of the operand and of the list"""
+    """The numbers of an operand at all indices of a list, as signed or unsigned numbers.
+
+    operand: the operand's name; indices: the list's name
+    """
 
     operand: str
     indices: str
@@ -239,7 +247,10 @@ class _Column:
 
 @functools.lru_cache(maxsize=4096)
 def _code_of_each(node: ast.expr, name: str) -> tuple[CodeType, Sequence[_Column]]:
-    """Return the code that evaluates a part of a formula for each number, as a list, and the columns that the code reads."""
+    """Return the code that evaluates a part of a formula for each number of a list, and the columns that the code reads.
+
+    The code's value is the list of results. name: the name in the formula that has these numbers as values
+    """
     columns = _Columns(name, _EACH)
     element = columns.visit(copy.deepcopy(node))
     code = _code(ast.ListComp(element, [columns.loop()]))
@@ -247,9 +258,9 @@ def _code_of_each(node: ast.expr, name: str) -> tuple[CodeType, Sequence[_Column
 
 
 class _Columns(ast.NodeTransformer):
-    """Replaces operands, whose index iterates over a list, with columns.
+    """Replaces each operand in an expression whose index iterates over a list with a column.
 
-    found: the columns of this list; inner: those of lists inside it
+    found: the columns for this list; inner: the columns for other lists inside the expression
     """
 
     def __init__(self, index: str, indices: str) -> None:
@@ -266,7 +277,7 @@ class _Columns(ast.NodeTransformer):
         return ast.comprehension(targets, zipped, [], 0)
 
     def visit_GeneratorExp(self, node: ast.GeneratorExp) -> ast.expr:
-        """Return a generator with columns of its own, if its list has a name and no condition."""
+        """Replace the operands of a generator with columns for the generator's own list, if this list has a name and no condition."""
         match node:
             case ast.GeneratorExp(element, [ast.comprehension(ast.Name(index), ast.Name(indices), [])]):
                 own = _Columns(index, indices)
@@ -276,7 +287,7 @@ class _Columns(ast.NodeTransformer):
         return cast(ast.expr, self.generic_visit(node))
 
     def visit_Call(self, node: ast.Call) -> ast.expr:
-        """Return a signed column in place of a conversion of an operand."""
+        """Return a column of signed numbers in place of a function that converts an operand to a signed number."""
         match node:
             case ast.Call(ast.Name("signed" | "sext"), [ast.Subscript(ast.Name(name), ast.Name(index))]):
                 if name in OPERANDS and index == self._index:
@@ -284,7 +295,7 @@ class _Columns(ast.NodeTransformer):
         return cast(ast.expr, self.generic_visit(node))
 
     def visit_Subscript(self, node: ast.Subscript) -> ast.expr:
-        """Return an unsigned column in place of an operand."""
+        """Return a column of unsigned numbers in place of an operand."""
         match node:
             case ast.Subscript(ast.Name(name), ast.Name(index)) if name in OPERANDS and index == self._index:
                 return self._column(name, False)
@@ -309,7 +320,7 @@ def _assignment(text: str, whole: str) -> Assignment:
 
 
 def _checked(text: str, whole: str) -> ast.expr:
-    """Parse an expression. Raises LabError unless all its parts belong to the language. whole: the formula, for the message"""
+    """Parse an expression. Raises LabError unless all its parts belong to the language. whole: the formula's text, for the message"""
     try:
         tree = ast.parse(text.strip(), mode="eval")
     except SyntaxError as error:

@@ -5,7 +5,12 @@ from .describe import describe, search_lines
 
 
 def help_lines(name: str) -> list[str]:
-    """Return the description of a name, which may be a command and an instruction; or the names whose texts contain the words."""
+    """Return the lines that `help NAME` prints.
+
+    They describe the command, the refusal or the record with this name. If a command and an instruction have the same name, they
+    describe both. If nothing has the name, they list the records whose texts contain all its words. For an empty name, they list
+    the commands.
+    """
     if not name:
         return [
             *help_on(""),

@@ -43,7 +43,7 @@ class Group:
 
     register: the number of the first register; size: the number of registers in a group
     groups: the number of consecutive groups: the fields of a segment
-    width: of an element in bits; 1 for a mask
+    width: the width of an element in bits; 1 for a mask
     """
 
     role: Role
@@ -74,10 +74,11 @@ class Access:
 class Equation:
     """The calculation of several elements that have one form.
 
-    calculation: for the first of these elements; for the element after it, each term is `Term.step` elements further, and so on
-    elements: their indices, in rising order
-    sign: which numbers the exact results equal: the elements' bits as signed or unsigned numbers, or as the reader's form says
-    others: the exact results of elements for which that isn't so, by element, as `Calculation.results`
+    calculation: the calculation of the first of these elements. Each term's `step` shows how the others' calculations differ
+    elements: the indices of the elements, in rising order
+    sign: how to interpret the bits of an element to get its exact result: SIGNED, UNSIGNED, or EITHER for the reader's number form
+    others: the exact results of the elements whose bits represent another number under `sign`, by element, as
+        `Calculation.results`
     """
 
     calculation: Calculation
@@ -93,14 +94,15 @@ class ExecutedInstruction:
     name: the mnemonic
     layout: how sources correspond to results (`Record.layout`)
     groups: the operands: first the destination or a store's data, then vs2 and vs1; operands with an unsupported width are omitted
-    elements: the most that it can have under the vector type
-    vl, vstart: before the instruction
-    outcomes: of each element; for a reduction, of its source
-    results: the outcomes of the destination's elements
-    pairs: each has an element of the source, and the element of the result to which it goes
-    does: a sentence with its meaning; does and formula have its own operands
-    is_shortened: whether it reduced vl because an element can't be read
-    scalars: the numbers of the scalar registers among its operands, without x0
+    elements: the largest number of elements that the instruction can have under the vector type
+    vl, vstart: the values before the instruction
+    outcomes: the outcome of each element; for a reduction, of each element of its source
+    results: the outcome of each element of the destination
+    pairs: each has the index of an element of the source, and the index of the element of the result to which it goes
+    does: a sentence about the effect of the instruction, with its own operands
+    formula: the formula, with its own operands
+    is_shortened: whether the instruction reduced vl because an element can't be read
+    scalars: the numbers of the scalar registers among the operands, without x0
     equations: the calculations of active elements; none if the registers before the instruction aren't known
     """
 
@@ -126,11 +128,13 @@ class ExecutedInstruction:
 def executed_instruction(
     before: Before, after: ControlRegisters, v: bytes, end: End, is_known: bool = True
 ) -> ExecutedInstruction | None:
-    """Return the vector instruction that a state executes; None for other instructions. Memory isn't read.
+    """Return the data of an executed vector instruction; None if the word isn't a vector instruction. Memory isn't read.
 
+    before: the word and the state before it
     after, v: the control registers and the bytes of all vector registers after the instruction
-    is_known: whether the registers before the instruction are known; if not, `before` has those after it, and there are no
-    equations
+    end: how the instruction ended
+    is_known: whether the registers before the instruction are known. If they aren't, `before` has the registers after it, and the
+        result has no equations
     """
     instruction = vector_instruction(before.word, before.control.vtype)
     return _Instruction(before, after, v, end).data(is_known) if instruction else None
@@ -139,10 +143,11 @@ def executed_instruction(
 class _Form:
     """The properties of a vector instruction that depend only on its word and the vector type.
 
-    does, formula: its sentence and its formula, whose terms have no values
-    is_whole: whether its operands are whole registers, for all vector types
-    is_single: whether it reads or writes only element 0 of a register, for any LMUL
-    elements: the most that it can have
+    does, formula: the instruction's sentence and its formula, in which the terms have no values
+    is_whole: whether the operands are whole registers for all vector types
+    is_single: whether the instruction reads or writes only element 0 of a register, for all values of LMUL
+    elements: the largest number of elements that the instruction can have
+
     The other attributes are as in `ExecutedInstruction`.
     """
 
@@ -175,7 +180,7 @@ class _Form:
         return Group(self._role(place, operand), operand.registers.start, operand.group, groups, operand.eew)
 
     def _role(self, place: int, operand: Operand) -> Role:
-        """Return the role of an operand. place: its index among the operands"""
+        """Return the role of an operand. place: the operand's index among the instruction's operands"""
         if place == 0 and operand.noun in ("destination", "data"):
             return "data" if self.is_store else "destination"
         is_second = place == 2
@@ -188,7 +193,7 @@ class _Form:
 
 
 def _has_elements(operand: Operand) -> bool:
-    """Return whether an operand's width is supported; a width such as 4 bits isn't, and makes the instruction illegal."""
+    """Return whether an operand's element width is supported. An unsupported width, such as 4 bits, makes the instruction illegal."""
     return operand.part is None or 8 <= operand.eew <= 64
 
 
@@ -202,8 +207,12 @@ def _form_of(word: int, vtype: int) -> _Form:
 def _outcomes_of(elements: int, start: int, end: int, stop: int, how: End, mask: bytes) -> tuple[Outcome, ...]:
     """Return the outcome of each element.
 
-    start: the first element that isn't prestart, or that faults; end: the first one that isn't reached
-    stop: the end of the body; how: the instruction's end; mask: the bytes of v0, or none if it masks nothing off
+    elements: the number of elements
+    start: the index of the first element that isn't prestart; after a fault, the index of the element that faulted
+    end: the index of the first element that isn't reached
+    stop: the index after the last element of the body
+    how: how the instruction ended
+    mask: the bytes of v0 if v0 masks elements off, otherwise empty
     """
 
     def outcome(element: int) -> Outcome:
@@ -241,7 +250,7 @@ class _Instruction:
     def data(self, is_known: bool) -> ExecutedInstruction:
         """Return the executed instruction.
 
-        is_known: whether the registers before it are known
+        is_known: whether the registers before the instruction are known
         """
         form, control, outcomes = self.form, self.before.control, self._outcomes()
         pairs = self._pairs(outcomes) if self.destination and not self.is_access else ()
@@ -275,7 +284,7 @@ class _Instruction:
         return Access(before.word >> 15 & 31, self.form.is_store, fields, addresses, max(8, data.eew) // 8)
 
     def _stop(self) -> int:
-        """Return the end of the body, in elements."""
+        """Return the index after the last element of the body."""
         vl = self.before.control.vl
         if self.is_whole:
             return self.elements
@@ -295,7 +304,10 @@ class _Instruction:
         return _outcomes_of(self.elements, start, end, stop, self.end, mask)
 
     def _results(self, outcomes: tuple[Outcome, ...], count: int) -> tuple[Outcome, ...]:
-        """Return the outcome of each element of the destination. count: the number of pairs"""
+        """Return the outcome of each element of the destination.
+
+        outcomes: the result of `_outcomes`; count: the number of pairs that `_pairs` returns
+        """
         if not self.destination or self.is_access:
             return outcomes
         if self.layout == "reduce":
@@ -309,13 +321,16 @@ class _Instruction:
         return tuple("kept" if at in kept else each for at, each in enumerate(outcomes))
 
     def _kept(self, outcomes: tuple[Outcome, ...]) -> Collection[int]:
-        """Return the active elements that aren't written, according to the record."""
+        """Return the indices of the active elements that aren't written, according to the instruction's record."""
         condition, active = self.execution.record.kept, _active(outcomes)
         holds = evaluate_each(condition, self.execution.names, active) if condition else []
         return {element for element, is_kept in zip(active, holds) if is_kept}
 
     def _pairs(self, outcomes: tuple[Outcome, ...]) -> tuple[tuple[int, int], ...]:
-        """Return pairs of an element of the source, and the element of the result to which it goes."""
+        """Return pairs: the index of an element of the source, and the index of the element of the result to which it goes.
+
+        There are none if elements of the source go to the element with the same index.
+        """
         active = _active(outcomes)
         if self.layout == "reduce":
             return tuple((element, 0) for element in active)
@@ -331,9 +346,9 @@ class _Instruction:
         return tuple(sorted(pairs, key=lambda pair: pair[1]))
 
     def _sources(self, node: ast.expr, elements: Sequence[int]) -> Iterator[tuple[int, int]]:
-        """Yield pairs of an element of the source that a gather or a slide reads, and the element of the result.
+        """Yield pairs: the index of the source element that a gather or a slide reads, and the index of the element of the result.
 
-        node: the branch of the formula
+        node: a branch of the formula; elements: the indices of the result's elements that this branch calculates
         """
         names = self.execution.names
         if isinstance(node, ast.Subscript) and numbers_of(node, names) is names["vs2"]:
@@ -341,7 +356,11 @@ class _Instruction:
             yield from (pair for pair in zip(sources, elements) if 0 <= pair[0] < self.elements)
 
     def _branches(self, elements: Sequence[int]) -> Sequence[tuple[ast.expr, Sequence[int]]]:
-        """Return the branches of the formula that some elements select, each with these elements, in the order of the first ones."""
+        """Return the branches of the formula's conditions that elements select.
+
+        Each branch comes with the indices of the elements that select it. Branches are in the order of their first elements. A
+        branch that no element selects is left out. elements: the indices to consider
+        """
         if not elements:
             return []
         found = branches_of(self._assignment.value, self.execution.names, elements)
@@ -352,7 +371,10 @@ class _Instruction:
         return self.execution.formula.assignments[0]
 
     def _equations(self, results: tuple[Outcome, ...]) -> Iterator[Equation]:
-        """Yield the calculations of active elements, one for all elements with the same form."""
+        """Yield the calculations of the active elements: one equation for all elements whose calculations have the same form.
+
+        results: the outcomes of the destination's elements
+        """
         if self.is_access:
             return
         if self.destination is None:
@@ -380,9 +402,10 @@ class _Instruction:
         return Term(name, bits, width, Sign.EITHER, register=register, index=element, step=1)
 
     def _equation(self, elements: Sequence[int], target: Term, is_copy: bool = False) -> Equation:
-        """Return the calculation of elements with one form.
+        """Return the equation for elements whose calculations have the same form.
 
-        target: the first of the elements, or a scalar register; is_copy: the value of `_is_copy`
+        elements: the indices of the elements; target: the first of the elements, or the scalar register that is written
+        is_copy: the result of `_is_copy` for their branch of the formula
         """
         self.execution.at(elements[0])
         is_single = is_copy or self.destination is None or self.destination.eew == 1
@@ -399,7 +422,12 @@ class _Instruction:
     def _exact(
         self, elements: Sequence[int], results: Sequence[tuple[int, int]]
     ) -> tuple[Sign, dict[int, tuple[int, int]]]:
-        """Return the sign that most of the elements' exact results have, and the results that differ from it, by element."""
+        """Return the sign under which the bits of most elements represent their exact results, as in `Equation`.
+
+        Also return the exact results of the elements whose bits represent another number under this sign, by element.
+
+        elements: the indices of the elements; results: their exact results, as in `Calculation.results`
+        """
         operand = self.instruction.operands[0]
         values = Elements(self.v, operand.registers.start, operand.eew, operand.group)
         unsigned, signed = values.each(elements, False), values.each(elements, True)

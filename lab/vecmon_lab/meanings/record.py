@@ -24,18 +24,20 @@ class Record:
     """The meaning of a name, or of a family of instructions.
 
     kind: `instruction`, `pseudo-instruction`, `directive`, `operand`, `control register`, `call`, `term` or `absent`
+    names: a regular expression for all names that the record describes, such as the mnemonics of a family
     does: a sentence of at most 25 words; it may name vs1 for all forms; `does_of` returns the sentence for one form
     template: `does` with braces around the words that other forms replace
-    formulas: of an instruction, by a form's suffix, such as `vx`; "" is for all other forms
+    formulas: the formulas of an instruction, by a regular expression for a form's suffix, such as `vx`; "" is for all other forms
     kept: the condition under which an element isn't written
     layout: how sources correspond to results: `by element`, `gather`, `slide`, `reduce`, `compress` or `scan`
     elements: a sentence about inactive and tail elements, if the general rule doesn't hold
+    use, mistake: sentences about a typical use, and about a frequent mistake
     see: names of related records
-    extension: of RISC-V, for an instruction
-    section: of the manual
-    file: the table that has the record
+    extension: the extension of RISC-V to which an instruction belongs
+    section: the section of the manual
+    file: the name of the table that has the record
     kept_text: `kept` as text
-    intrinsic: a call in C
+    intrinsic: a call of the instruction's intrinsic function in C
     """
 
     name: str
@@ -138,6 +140,6 @@ def _record(name: str, file: str, cells: Mapping[str, object]) -> Record:
 
 
 def _without_instructions(names: str) -> str:
-    """Return a pattern for names of other extensions that doesn't match the instructions that the machine has."""
+    """Return a pattern that matches the same names as the pattern `names`, except the mnemonics of the machine's instructions."""
     here = [re.escape(name) for name in instruction_table() if re.fullmatch(names, name)]
     return rf"(?!({'|'.join(here)})$)({names})" if here else names

@@ -14,7 +14,10 @@ from .why import NO_STEP, Explanation, Reason
 
 
 def why_stepped(stepper: Stepper, name: str, element: int | None = None) -> Reason:
-    """Return why a register, or an element of a vector register, has its value. Raises LabError, also if nothing was stepped."""
+    """Return why a register, or an element of a vector register, has its value after the last stepped instruction.
+
+    Raises LabError as `Explanation.why` does, and if nothing was stepped. name, element: as in `Explanation.why`
+    """
     if stepper.last is None:
         raise LabError(NO_STEP)
     before, retired = stepper.last
@@ -22,7 +25,7 @@ def why_stepped(stepper: Stepper, name: str, element: int | None = None) -> Reas
 
 
 class Step:
-    """A stepped instruction of a call: its address, word and text, its changes, and the reasons for values of registers after it."""
+    """An instruction that was stepped: its address, word and text, its changes, and why registers have their values after it."""
 
     def __init__(self, guest: Guest, before: Registers, after: ControlRegisters, retired: Retired) -> None:
         self.pc, self.word, self.text = retired.pc, retired.word, retired.text
@@ -36,16 +39,17 @@ class Step:
         return f"{self.pc:x} {self.text}: {' '.join(map(str, self.changes))}".rstrip(": ")
 
     def why(self, name: str, element: int | None = None) -> Reason:
-        """Return why a register, or an element of a vector register, has its value after this step. Raises LabError."""
+        """Return why a register, or an element of a vector register, has its value after this step. As `Explanation.why`."""
         return self._explanation().why(name, element)
 
 
 def explanation_of(guest: Guest, before: Registers, after: ControlRegisters, retired: Retired) -> Explanation:
-    """Return the execution of an instruction, for `why`.
+    """Return the reasons for the values that registers have after an instruction.
 
-    before: the registers before the instruction; after: the control registers after it
+    Memory is read from the guest during this call, after the instruction: a load hasn't changed memory, and the bytes that a store
+    wrote aren't needed. Raises LabError if the instruction can't be fetched, is illegal or has no formula.
 
-    Memory is read now: a load hasn't changed it, and the bytes that a store wrote aren't needed. Raises LabError.
+    before: the registers before the instruction; after: the control registers after it; retired: the instruction
     """
     if not retired.text:
         raise LabError(f"no instruction can be fetched at {retired.pc:#x}, so nothing was changed")

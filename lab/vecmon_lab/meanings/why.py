@@ -19,7 +19,10 @@ _NAME = re.compile(r"(\w+)(?:\[(\d+)\]|\s+(\d+))?")
 
 @dataclass(frozen=True)
 class Reason:
-    """Why a register or an element has its value, or kept its value. It has the text and the unsigned value."""
+    """The reason why a register or an element has its value, or why it kept its value.
+
+    of: the calculation of the value, or the cause why it was kept
+    """
 
     of: Calculation | Kept
 
@@ -56,7 +59,12 @@ class Explanation:
         self._execution, self._after = Execution(before), execute(before)
 
     def why(self, name: str, element: int | None = None) -> Reason:
-        """Return why a scalar register, or an element of a vector register, has its value. Raises LabError."""
+        """Return why a scalar register, or an element of a vector register, has its value after the instruction.
+
+        Raises LabError if there is no such register or element, or if a vector register is named without an element.
+
+        name: such as `x10`, `a0` or `v8`; element: the element's index; None for a scalar register
+        """
         number = _register(name)
         if not re.fullmatch(r"v\d+", name):
             if element is not None:
@@ -68,7 +76,7 @@ class Explanation:
 
 
 def _register(name: str) -> int:
-    """Return the number of a register. Raises LabError."""
+    """Return the number of a register. Raises LabError if there is no such register. name: such as `x10`, `a0` or `v8`"""
     number = REGISTERS.get(name, name)
     if not re.fullmatch(r"[xv](?:\d|[12]\d|3[01])", number):
         kind = "there is no register" if re.fullmatch(r"[xv]\d+", name) else "a register has another name than"
@@ -77,7 +85,10 @@ def _register(name: str) -> int:
 
 
 def _why_scalar(execution: Execution, after: After, number: int) -> Calculation | Kept:
-    """Return why a scalar register has its value."""
+    """Return why a scalar register has its value after an instruction.
+
+    after: the state after the execution; number: of the register
+    """
     before = execution.before
     assignment = next((it for it in execution.formula.assignments if it.kind == "x"), None)
     if number not in after.x or assignment is None:
@@ -87,7 +98,10 @@ def _why_scalar(execution: Execution, after: After, number: int) -> Calculation 
 
 
 def _why_element(execution: Execution, after: After, register: int, element: int) -> Calculation | Kept:
-    """Return why an element of a vector register group has its value. register: any register of the group"""
+    """Return why an element of a vector register group has its value. Raises LabError if the group has no such element.
+
+    register: the number of any register of the group; element: the index, counted from the first element of this register
+    """
     operand, before, at, group = execution.operand, execution.before, 0, 1
     width, is_written = before.control.sew, operand is not None and register in operand.registers
     if operand and is_written:
@@ -106,9 +120,10 @@ def _why_element(execution: Execution, after: After, register: int, element: int
 
 
 def _why_written(execution: Execution, after: After, register: int, field: int, index: int) -> Calculation | Kept:
-    """Return why an element of the operand in the field vd has its value.
+    """Return why an element of the operand that the instruction's field vd names has its value.
 
-    register: the first register of the group; field: the number of the segment's field; index: of the element
+    register: the number of the group's first register; field: the number of the segment's field, 0 without segments
+    index: the index of the element in the group
     """
     is_mask, control = execution.target.kind == "mask", after.control
     unit, name = 1 if is_mask else execution.width, f"v{register}{'.mask' * is_mask}[{index}]"
@@ -129,7 +144,7 @@ def _why_written(execution: Execution, after: After, register: int, field: int, 
 
 
 def _cause(execution: Execution, outcome: ElementOutcome, index: int) -> str:
-    """Return why the formula doesn't apply to an element."""
+    """Return why the formula doesn't apply to an element. outcome: the element's outcome, which isn't RESULT"""
     control, body = execution.before.control, execution.body
     stop = f"vl = {control.vl}" if body.stop == control.vl else f"{body.stop}"
     if execution.is_single:
@@ -145,7 +160,7 @@ def _cause(execution: Execution, outcome: ElementOutcome, index: int) -> str:
 
 
 def _kept_cause(execution: Execution) -> str:
-    """Return why an element isn't written, from the record's condition with numbers.
+    """Return why the current element isn't written: the record's condition, with numbers in place of names.
 
     For vcompress, elements after the packed ones are the tail (section 16.5).
     """

@@ -36,10 +36,23 @@ DATA, READ_ONLY, DATA_END = 0x20000, 0x21000, 0x22000
 """The limits of two pages of data. The second page is read-only."""
 
 _LOADS, _STORES = (LOAD, LOAD_FP), (STORE, STORE_FP)
-PLACES = {"rd": 7, "vd": 7, "rs1": 15, "vs1": 15, "rs2": 20, "vs2": 20, "csr": 20, "vtypei": 20}  # lowest bits
+PLACES = {
+    "rd": 7,
+    "vd": 7,
+    "rs1": 15,
+    "vs1": 15,
+    "rs2": 20,
+    "vs2": 20,
+    "csr": 20,
+    "vtypei": 20,
+}  # the lowest bit of each field
 _MASKABLE = "[, v0.t]"
 _REACH = 512  # the bytes that a strided or indexed access spans
-_SCALAR_CASES, _TROUBLES, _DRAWS = 24, 8, 40  # cases in a plan, those of them that fault, and how often a word is drawn
+_SCALAR_CASES, _TROUBLES, _DRAWS = (
+    24,
+    8,
+    40,
+)  # cases of a scalar instruction; added cases that fault; the most draws of a word
 _WILD = (0, 8, 0x7FC, 1 << 31, 1 << 40, (1 << 48) - 4, 1 << 48, (1 << 64) - 4096, (1 << 64) - 4)
 
 
@@ -55,7 +68,11 @@ class Kind:
 
 @dataclass
 class Case:
-    """A word and the state before it. Other registers and bytes are 0. memory: runs of bytes, by address"""
+    """A word to execute, and the state before it. Registers and bytes of memory that aren't listed are 0.
+
+    x, v: the values of scalar registers and the bytes of vector registers, by the register's number
+    memory: runs of bytes, by the address of the first byte
+    """
 
     word: int
     control: ControlRegisters
@@ -64,7 +81,7 @@ class Case:
     memory: dict[int, bytes] = field(default_factory=dict)
 
     def register(self, name: str) -> int:
-        """Return the number of the register in a field of the word."""
+        """Return the number of the register that a field of the word has. name: the field, such as `rs1`"""
         return self.word >> PLACES[name] & 31
 
 
@@ -78,10 +95,13 @@ class _Draws(random.Random):
         return self.choice(values) % (1 << 64)
 
     def elements(self, eew: int, limit: int, is_offset: bool = False) -> bytes:
-        """Return the bytes of a register.
+        """Return random bytes for a vector register.
 
-        They are random, or have elements below `limit`, or at the limits of their width, or all equal; offsets are always below
-        `limit`.
+        A random choice decides whether all bits are random, or whether the elements are below `limit`, have the smallest or largest
+        values of their width, or are all equal.
+
+        eew: the width of an element in bits
+        is_offset: whether the elements are offsets of addresses. If they are, all of them are below `limit`
         """
         eew = min(64, max(8, eew))  # a mask's is 1, and an illegal instruction's may be out of range
         count, edges = 256 // eew, (0, 1, (1 << eew) - 1, 1 << eew - 1, (1 << eew - 1) - 1)
@@ -91,14 +111,18 @@ class _Draws(random.Random):
         return data if is_offset else self.choice((self.randbytes(32), data))
 
     def stride(self, vl: int) -> int:
-        """Return a stride for which `vl` elements are within reach."""
+        """Return a random stride in bytes, with which `vl` elements span at most _REACH bytes. It may be negative."""
         limit = _REACH // max(1, vl)
         return self.choice(
             (0, min(limit, 8), self.randrange(-limit, limit + 1), self.randrange(-limit, limit + 1) & ~7)
         )
 
     def field(self, row: Row, name: str, step: int) -> tuple[int, int]:
-        """Return the mask of a field, and a value for it. step: register numbers are multiples of it"""
+        """Return a number with as many ones as a field has bits, and a random value for the field.
+
+        row: the instruction; name: the field
+        step: if the field names a vector register, the register's number is a multiple of `step`
+        """
         if name == "csr":
             return 0xFFF, self.choice((*CONTROL_REGISTERS, *CONTROL_REGISTERS, *CONTROL_REGISTERS, 0x300, 0x7C0))
         if name == "vtypei":
@@ -115,7 +139,12 @@ def touches_memory(row: Row) -> bool:
 
 @functools.cache
 def plan(row: Row, seed: int) -> list[Kind]:
-    """Return the purposes of an instruction's cases: each legal vector type, with and without a mask; and faults."""
+    """Return the purposes of an instruction's cases, in random order.
+
+    A vector instruction has a case for each vector type under which it is legal, without and with a mask. A vset, and an
+    instruction for control registers, has one for each vector type and for vill; other instructions have _SCALAR_CASES. All have
+    _TROUBLES more cases, which are illegal or access memory outside of their pages.
+    """
     draws, types, masks = _Draws(f"{seed} {row.name}"), [VILL] * _SCALAR_CASES, (False, True)
     if _is_vector(row):
         types = [vtype for vtype in SUPPORTED if not illegal_reasons(*_draw_word(row, Kind(vtype), _Draws(0), [8]))]
@@ -131,7 +160,10 @@ def plan(row: Row, seed: int) -> list[Kind]:
 
 
 def draw_case(row: Row, number: int, seed: int) -> Case:
-    """Return the case of an instruction with a number."""
+    """Return one case of an instruction. The same arguments always give the same case.
+
+    number: the case's number, from 0 on. The purposes of `plan` repeat if there are more cases than purposes
+    """
     kinds, draws = plan(row, seed), _Draws(f"{seed} {row.name} {number}")
     kind = kinds[number % len(kinds)]
     word, view = _draw_word(row, kind, draws, (1, 2, 4, 8))
@@ -148,7 +180,7 @@ def draw_case(row: Row, number: int, seed: int) -> Case:
 
 
 def moved(case: Case, row: Row, base: int) -> Case:
-    """Return a case whose memory is `base` bytes further on."""
+    """Return a case with `base` added to the addresses of its memory, and to the register that has the address of its access."""
     address = 11 if row.name == "ecall" else case.register("rs1")
     x = case.x | ({address: (case.x[address] + base) % (1 << 64)} if touches_memory(row) else {})
     return replace(case, x=x, memory={base + first: data for first, data in case.memory.items()})
@@ -175,23 +207,27 @@ def _is_vector(row: Row) -> bool:
 
 
 def _is_strided(row: Row) -> bool:
-    """Return whether a row is a vector load or store with a stride. Its stride mustn't be drawn from the base register."""
+    """Return whether a row is a vector load or store whose stride is in a scalar register."""
     return row.opcode in VECTOR_ACCESSES and "rs2" in row.fields()
 
 
 def _operands(row: Row, word: int, view: ControlRegisters) -> list[Operand]:
-    """Return the vector register operands, including the mask."""
+    """Return the vector register operands of a word, and v0 as the last one if the word is masked; none for other instructions.
+
+    view: the state with the vector type
+    """
     instruction = decode(word, view.sew, view.lmul) if _is_vector(row) else None
     mask = [Operand("mask", 1, Fraction(1), True, 1, range(1))] if instruction and instruction.is_masked else []
     return instruction.operands + mask if instruction else []
 
 
 def _draw_word(row: Row, kind: Kind, draws: _Draws, steps: Sequence[int]) -> tuple[int, ControlRegisters]:
-    """Return a word of a row, and a state, that are legal or illegal together, as the case's purpose asks.
+    """Return a random word of a row, and a state in which the word is legal or illegal, as the case's purpose requires.
 
-    If _DRAWS draws find none, the last pair is returned in any case, unless `_is_odd`.
+    After _DRAWS draws without success, a pair is returned even if it doesn't have the required legality. A legal word that
+    `_is_odd` excludes is never returned.
 
-    steps: one of these numbers is chosen, and register numbers are multiples of it
+    steps: for each draw, one of these numbers is chosen, and the numbers of vector registers are multiples of it
     """
     for number in itertools.count(1):
         vlmax = ControlRegisters(vtype=kind.vtype).vlmax
@@ -212,14 +248,17 @@ def _draw_word(row: Row, kind: Kind, draws: _Draws, steps: Sequence[int]) -> tup
 
 
 def _is_odd(row: Row, word: int, view: ControlRegisters) -> bool:
-    """Return whether a legal word is excluded: its stride and its base are in the same register, or its encoding is reserved."""
+    """Return whether a legal word is excluded from the cases.
+
+    It is excluded if its stride and its base address are in the same register, or if its encoding is reserved.
+    """
     stride_is_base = _is_strided(row) and not (word >> 15 ^ word >> 20) & 31
     instruction = decode(word, view.sew, view.lmul) if _is_vector(row) else None
     return stride_is_base or instruction is not None and bool(registers_of_two_widths(instruction))
 
 
 def _fill_scalars(case: Case, row: Row, draws: _Draws) -> None:
-    """Set the scalar registers that the instruction names."""
+    """Set the scalar registers that a case's instruction names to random values."""
     for name in ("rs1", "rs2", "rd"):
         if name in row.fields():
             case.x[case.register(name)] = draws.scalar()
@@ -234,7 +273,7 @@ def _fill_scalars(case: Case, row: Row, draws: _Draws) -> None:
 
 
 def _fill_vectors(case: Case, operands: list[Operand], draws: _Draws) -> None:
-    """Set v0, the neighbours of the first operand, and the registers of all operands."""
+    """Set v0, the registers next to the first operand's, and the registers of all operands to random values."""
     if operands:
         first = operands[0].registers
         case.v = {number: draws.randbytes(32) for number in (0, first.start - 1, first.stop) if 0 <= number < 32}
@@ -245,7 +284,10 @@ def _fill_vectors(case: Case, operands: list[Operand], draws: _Draws) -> None:
 
 
 def _fill_memory(case: Case, row: Row, operands: list[Operand], is_out_of_range: bool, draws: _Draws) -> None:
-    """Set the base register to an address, set the stride, and write bytes to the memory around the address."""
+    """Set the register with the address of a case's access, set the stride if there is one, and add bytes of memory around the address.
+
+    is_out_of_range: whether the address is next to a limit of the data pages, or far outside of them
+    """
     base = 11 if row.name == "ecall" else case.register("rs1")
     distance, before, after = 0, 0, 256
     if _is_strided(row):

@@ -54,12 +54,12 @@ def add_arguments(parser: argparse.ArgumentParser) -> None:
 
 
 def names() -> list[str]:
-    """Return the values of NAME."""
+    """Return the values that the argument NAME of the command line may have."""
     return ["all", *instruction_table()]
 
 
 def run(arguments: argparse.Namespace) -> int:
-    """Print the cases. Raises LabError for an unknown instruction."""
+    """Print the cases, or write them as programs, as the arguments say. Return the exit status. Raises LabError for invalid arguments."""
     program, table = find_program(), instruction_table()
     names = list(table) if arguments.names == ["all"] else arguments.names
     if "all" in names:
@@ -101,11 +101,13 @@ def golden_results(
     base: int = 0,
     has_choices: bool = True,
 ) -> Iterator[dict[str, object]]:
-    """Yield cases of an instruction with the machine's results. Raises the errors of `Session`.
+    """Yield cases of an instruction with the machine's results, as docs/GOLDEN_VECTORS.md describes them. Raises the errors of `Session`.
 
-    cases: their number; None for the whole plan
-    base: is added to all addresses in the description of the format
-    has_choices: whether to use all cases as drawn; otherwise, cases whose results are open have vstart 0 and aligned addresses
+    program: the path of vecmon
+    cases: the number of cases; None for one case of each purpose in the instruction's plan
+    base: the number to add to all addresses that docs/GOLDEN_VECTORS.md gives
+    has_choices: whether to use all cases as drawn. If not, a case whose result the standard leaves open is executed with vstart 0
+        and an aligned address instead
     """
     count = len(plan(row, seed)) if cases is None else cases
     for first in range(0, count, _CASES_OF_A_SESSION):
@@ -119,9 +121,11 @@ def golden_results(
 
 
 def execute_case(session: Session, row: Row, case: Case, policy: str = "keep", base: int = 0) -> dict[str, object]:
-    """Return a case with the machine's results, in the described format. User 1 enters, and leaves again.
+    """Execute a case, and return it with the machine's results, as docs/GOLDEN_VECTORS.md describes them.
 
-    base: is added to the addresses of the instruction and of memory in the description of the format
+    User 1 enters the session before the case, and leaves after it.
+
+    base: the number to add to the addresses of the instruction and of memory that docs/GOLDEN_VECTORS.md gives
     """
     pages = {base + CODE: "rx"} | ({base + DATA: "rw", base + READ_ONLY: "r"} if touches_memory(row) else {})
     guest = Guest(session, report=lambda address, sentence: None)  # the numbers of calls are random
@@ -152,7 +156,7 @@ def execute_case(session: Session, row: Row, case: Case, policy: str = "keep", b
 
 
 def _set_up(case: Case, pages: dict[int, str], policy: str) -> Iterator[str]:
-    """Yield the lines that set up the state before a case."""
+    """Yield the commands that set up the state before a case. pages: the permissions of the case's pages, by address"""
     code, control = min(pages), dict(enumerate(vars(case.control).values(), 10))
     pc = code + PC - CODE
     yield "enter"
@@ -169,7 +173,11 @@ def _set_up(case: Case, pages: dict[int, str], policy: str) -> Iterator[str]:
 
 
 def _named(pc: int, registers: Registers) -> tuple[dict[str, object], dict[str, dict[int, str]]]:
-    """Return pc and the control registers by the names in the format, and x and v by number."""
+    """Return two dictionaries in the format of golden vectors.
+
+    The first has the values of pc and of the control registers by name. The second has, under `x` and `v`, the digits of the scalar
+    and vector registers by number.
+    """
     control: dict[str, object] = {"pc": f"{pc:x}", **vars(registers.control), "vtype": f"{registers.control.vtype:x}"}
     x = {number: f"{value:x}" for number, value in enumerate(registers.x) if number}
     return control, {"x": x, "v": {number: registers.v[32 * number : 32 * number + 32].hex() for number in range(32)}}

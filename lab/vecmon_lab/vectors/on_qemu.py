@@ -1,7 +1,9 @@
 """Run golden vectors (docs/GOLDEN_VECTORS.md) on QEMU's user mode, and print the differences: on_qemu.py FILE
 
-One process runs all cases. If a case ends QEMU itself, another process runs the cases after it. The program around the cases
-(on_qemu.txt) reads each from standard input; a signal ends each case.
+QEMU runs a program whose machine code is in on_qemu.txt. For each case, this program reads the state before the case from standard
+input, loads it into the registers and the memory, and executes the case's instruction. Then a signal returns control to the
+program, and it writes the state to standard output. One QEMU process executes all cases. If a case ends QEMU itself, another
+process executes the cases after it.
 """
 
 import argparse
@@ -21,29 +23,32 @@ QEMU = ["qemu-riscv64", "-cpu", "rv64,Zve64f=true,vext_spec=v1.0,vlen=256,elen=6
 """The command of QEMU 7.2."""
 
 POLICIES = {"keep": "", "ones": ",rvv_ta_all_1s=true,rvv_ma_all_1s=true"}
-"""The end of the last argument in QEMU, by the policy for agnostic elements."""
+"""The text to append to the last argument in QEMU for each policy for agnostic elements."""
 
 CODE, DATA, PROGRAM, BLOCK, STACK = 0x10000, 0x20000, 0x60000000, 0x60010000, 0x60020000
 CONTROL = ("vl", "vtype", "vxrm", "vxsat", "vstart")
 NAMES = ("end", *CONTROL, "value", "v", "pc", *(f"x{number}" for number in range(1, 32)), "memory")
-LAYOUT = struct.Struct("<7Q8x1024s32Q8192s")  # of NAMES; `end` is the word of a case, and the signal of a result
+LAYOUT = struct.Struct(
+    "<7Q8x1024s32Q8192s"
+)  # the values of NAMES; `end` is the word to execute, and after it the signal
 EBREAKS = b"\x73\0\x10\0" * 1024
-"""A page of code full of ebreaks. One of them ends a case that ran."""
+"""A page of code full of ebreaks. After an instruction that causes no signal itself, one of them ends the case."""
 Case = Mapping[str, object]
 State = dict[str, int | bytes | str]
 SIGNALS = {4: "fault 2", 5: "ebreak", 7: "fault {}", 11: "fault {}"}
 
 
 def program() -> list[int]:
-    """The machine code around the cases, as 32-bit words."""
+    """Return the 32-bit words of the program that QEMU runs: it loads, executes and reports each case. They are read from on_qemu.txt."""
     listing = pathlib.Path(__file__).with_name("on_qemu.txt")
     return [int(line.split()[0], 16) for line in listing.read_text("ascii").splitlines() if not line.startswith("#")]
 
 
 def image(words: Sequence[int], mapped: Mapping[int, bytes]) -> bytes:
-    """Return an ELF image of the program around the cases.
+    """Return an ELF image with the program that executes cases, the block and the stack that it uses, and the memory of the cases.
 
-    mapped: the memory of the cases, by address
+    words: the machine code of the program, from `program`
+    mapped: the initial bytes of the cases' code and data pages, by the address of the first byte
     """
     block = bytes(0x700) + struct.pack("<QQQ8xQQQ", STACK, 0, 0x10000, PROGRAM + 18 * 4, 0x08000004, 0)
     parts = {**mapped, PROGRAM: struct.pack(f"<{len(words)}I", *words)}
@@ -57,13 +62,19 @@ def image(words: Sequence[int], mapped: Mapping[int, bytes]) -> bytes:
 
 
 def object_in(case: Case, name: str) -> dict[str, str]:
-    """Return an object in a case; an empty one if there is none."""
+    """Return the object under a key of a case, such as `x` or `after`; an empty dictionary if the case has no object there.
+
+    name: the key
+    """
     value = case.get(name)
     return value if isinstance(value, dict) else {}
 
 
 def state(*named: Case) -> State:
-    """Return the state of a case; with the case's changes, the state after it. Registers and memory that aren't named are 0."""
+    """Return the state before or after a case: the values of NAMES, by name. Registers and bytes that aren't listed are 0.
+
+    named: the case, for the state before it; or the case and then its object `after`, for the state after it
+    """
     v, memory, values = bytearray(1024), bytearray(8192), dict[str, int].fromkeys(NAMES, 0)
     for part in named:
         values |= {name: int(str(part[name]), 16) for name in ("pc", "vtype") if name in part}
@@ -79,21 +90,30 @@ def state(*named: Case) -> State:
 
 
 def can_run(case: Case) -> bool:
-    """Return whether QEMU can run a case: it has no call, which would reach the system, and no misaligned target, which ends QEMU."""
+    """Return whether QEMU can run a case.
+
+    QEMU passes a system call to the host's kernel, and ends at a jump to a misaligned address. Such cases can't be run.
+    """
     return case["name"] != "ecall" and case.get("cause") != 0
 
 
 def expected(case: Case) -> State:
-    """Return the expected state after a case, and how the case ends."""
+    """Return the state after a case, as the golden vector has it, in the form of `state`.
+
+    The entry `end` says how the case ends, such as `ran` or `fault 2`. The entry `value` is the address of an access fault, or 0.
+    """
     value = int(str(case["value"]), 16) if case.get("cause") in (5, 7) else 0
     end = f"fault {case['cause']}" if case["end"] == "fault" else str(case["end"])
     return {**state(case, object_in(case, "after")), "end": end, "value": value}
 
 
 def found(case: Case, result: bytes | None) -> State:
-    """Return the state after a case, from QEMU's result, and how the case ends.
+    """Return the state after a case, as QEMU left it, in the form of `expected`.
 
-    If the signal is at another address, the instruction ran. result: None if QEMU ended
+    If the signal came from another address than that of the case's instruction, the instruction ran.
+
+    result: the state that QEMU wrote, in the form of LAYOUT; None if QEMU itself ended. Then `end` says so, and all other entries
+        are the expected ones
     """
     if result is None:
         return {**expected(case), "end": "QEMU ended"}
@@ -104,7 +124,7 @@ def found(case: Case, result: bytes | None) -> State:
 
 
 def differences(cases: Sequence[Case]) -> list[dict[str, tuple[object, object]]]:
-    """Return QEMU's differences for each case, by name: the expected and the found value.
+    """Run cases on QEMU. For each case, return the expected and the found value of each entry of the state that differs, by name.
 
     All cases must have the same policy.
     """
@@ -115,7 +135,13 @@ def differences(cases: Sequence[Case]) -> list[dict[str, tuple[object, object]]]
 
 
 def results(befores: Sequence[bytes], policy: str = "keep") -> Iterator[bytes | None]:
-    """Yield the state after each case; None if QEMU itself ended. Raises CalledProcessError if QEMU doesn't start."""
+    """Run cases on QEMU. For each case, yield the state after it in the form of LAYOUT, or None if the case ended QEMU itself.
+
+    Raises CalledProcessError if QEMU doesn't start.
+
+    befores: the state before each case in the form of LAYOUT, where `end` is the word to execute
+    policy: `keep` or `ones`, for agnostic elements
+    """
     done = 0
     while done < len(befores):
         output = _run(b"".join(before[-8192:] + before[:-8192] for before in befores[done:]), policy)
@@ -128,9 +154,12 @@ def results(befores: Sequence[bytes], policy: str = "keep") -> Iterator[bytes | 
 
 
 def _run(cases: bytes, policy: str) -> bytes:
-    """Return the output of the program around the cases.
+    """Run the program of `program` in QEMU, and return its output. Raises CalledProcessError if QEMU doesn't start.
 
-    The program reads them from a file, since a read from a pipe may be short.
+    The output has the state at the program's start, and then the state after each case, up to a case that ends QEMU itself.
+
+    cases: the states before the cases, one after the other, each with its memory first. The program reads them from a file, since
+        a read from a pipe may return fewer bytes than requested
     """
     with tempfile.TemporaryDirectory() as folder, tempfile.TemporaryFile() as feed:
         elf = pathlib.Path(folder, "image")
@@ -153,7 +182,10 @@ def version() -> tuple[int, int]:
 
 
 def qemu(policy: str = "keep") -> list[str]:
-    """Return the command of the installed QEMU for a policy. Since version 8.2, names of extensions are in lower case."""
+    """Return the command and arguments that start the installed QEMU with a policy, `keep` or `ones`, for agnostic elements.
+
+    QEMU accepts the names of extensions only in lower case since version 8.2.
+    """
     extensions = QEMU[2].replace("Zve", "zve") if version() >= (8, 2) else QEMU[2]
     return [*QEMU[:2], extensions + POLICIES[policy]]
 

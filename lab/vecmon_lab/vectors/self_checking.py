@@ -22,17 +22,16 @@ _SECTIONS = pathlib.Path(__file__).with_name("sections.s").read_text("ascii")
 
 
 class Writer:
-    """Writes programs into folders, and counts them.
-
-    elf, asm: the folders of ELF files and of sources; None to write none
-    """
+    """Writes cases as self-checking programs into folders, and counts the cases and programs."""
 
     def __init__(
         self, elf: pathlib.Path | None, asm: pathlib.Path | None, environment: str, has_choices: bool = False
     ) -> None:
-        """Create the folders.
+        """Create the folders if they don't exist.
 
-        environment: the name of an environment; has_choices: whether to write cases whose results the standard leaves open
+        elf, asm: the folders for ELF files and for assembler sources; None to write no ELF files, or no sources
+        environment: the name of the environment in which the programs run, a key of ENVIRONMENTS
+        has_choices: whether to write cases whose results the standard leaves open
         """
         self._folders, self._environment = {".elf": elf, ".s": asm}, ENVIRONMENTS[environment]
         self._has_choices = has_choices
@@ -41,7 +40,10 @@ class Writer:
             folder.mkdir(parents=True, exist_ok=True)
 
     def write(self, name: str, goldens: Sequence[Case]) -> None:
-        """Write the programs of an instruction's cases, and next to each program its cases and its signature."""
+        """Write programs with an instruction's cases, and next to each program a file with its cases and one with its signature.
+
+        name: of the instruction; goldens: its cases with the machine's results
+        """
         reasons = [self._reason_to_leave_out(golden) for golden in goldens]
         shown = [golden for golden, reason in zip(goldens, reasons) if not reason]
         self._left_out.update(filter(None, reasons))
@@ -57,7 +59,7 @@ class Writer:
         yield from (f"left out: {count:,} {reason}" for reason, count in sorted(self._left_out.items()))
 
     def _reason_to_leave_out(self, golden: Case) -> str:
-        """Return why a case isn't written, for the summary; "" if it is written."""
+        """Return the reason for which a case isn't written, as the end of a line of the summary; "" if the case is written."""
         kind = kind_of(golden, self._environment.base)
         if kind not in self._environment.ends:
             return f"of {kind}"
@@ -83,7 +85,7 @@ class Writer:
 
 
 def kind_of(golden: Case, base: int) -> str:
-    """Return how a case ends, as environments name it. base: is added to all addresses"""
+    """Return how a case ends, in the terms of `Environment.ends`. base: the number that was added to all addresses of the case"""
     after = object_in(golden, "after")
     pc = int(str(after.get("pc", golden["pc"])), 16)
     if golden["name"] == "ecall":
@@ -101,7 +103,7 @@ def kind_of(golden: Case, base: int) -> str:
 
 
 def executed(golden: Case) -> Executed:
-    """Return a case as an executed instruction, with the state before it, and its fault."""
+    """Return the instruction of a case, with the state before it and its fault, as `open_result` takes it."""
     before, after = state(golden), object_in(golden, "after")
     v = before["v"]
     assert isinstance(v, bytes)
@@ -114,7 +116,7 @@ def executed(golden: Case) -> Executed:
 
 
 def case_words(golden: Case, environment: Environment) -> tuple[list[int], int]:
-    """Return the 64-bit words with which the code executes a case, and the digest of the state after it."""
+    """Return the 64-bit words from which a program sets up and executes a case, and the digest of the state after the case."""
     word, has_memory = int(str(golden["word"]), 16), f"{environment.base + MEMORY:x}" in object_in(golden, "pages")
     named = {word >> 7 & 31, word >> 15 & 31, word >> 20 & 31}
     spare = next(number for number in SPARE if not {number, number - 1} & named)
@@ -126,9 +128,10 @@ def case_words(golden: Case, environment: Environment) -> tuple[list[int], int]:
 
 
 def _runs(old: bytes, new: bytes) -> Iterator[int]:
-    """Yield the 64-bit words that differ from old ones, in runs, followed by 0.
+    """Yield the 64-bit words of `new` that differ from those of `old`, in runs of consecutive words, followed by 0.
 
-    Each run starts with a word that has the number of words in its lower half, and the place in its upper half.
+    Before each run there is a word with the number of words in its lower half, and the offset of the first one in bytes in its
+    upper half.
     """
     one, other = (struct.unpack(f"<{len(data) // 8}Q", data) for data in (old, new))
     for first, last in runs(one, other):
@@ -138,7 +141,11 @@ def _runs(old: bytes, new: bytes) -> Iterator[int]:
 
 
 def source_lines(name: str, part: Sequence[Case], cases: Sequence[Sequence[int]], around: Harness) -> Iterator[str]:
-    """Yield the source of a program for stock assemblers, with a comment that says how to link it."""
+    """Yield the source of a program for stock assemblers, with a comment that says how to link it.
+
+    name: of the instruction; part: the program's cases; cases: the words of each case, from `case_words`
+    around: the code that executes the cases
+    """
     base, code = around.environment.base, around.environment.code
     places = {".cases": code + LIST, ".instruction": base + CODE, ".memory": base + MEMORY}
     yield f"# {len(part)} cases of {name}, made by vecmon-lab. gcc or clang makes a program of them with\n"
