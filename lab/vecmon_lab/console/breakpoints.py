@@ -26,7 +26,10 @@ class Breakpoints:
         self._places, self._conditions = places, conditions
 
     def set(self, text: str) -> None:
-        """Set breakpoints at `PLACE` or `PLACE if CONDITION`. Raises LabError if they can't be set."""
+        """Set breakpoints, and print a refusal if the machine refuses one. Raises LabError for an unknown place or a bad condition.
+
+        text: `PLACE`, or `PLACE if CONDITION`
+        """
         word, _, condition_text = text.partition(" if ")
         place, condition = self.find(word.strip()), None
         if condition_text:
@@ -39,7 +42,7 @@ class Breakpoints:
             self._say_done(place)
 
     def remove(self, word: str) -> None:
-        """Remove the breakpoints of a place. Raises LabError if there is no such place."""
+        """Remove the breakpoints of a place. Raises LabError if there is no such place. word: the argument that names the place"""
         place, there = self.find(word), self._there()
         old = [each for each in place.addresses if is_number(each) and int(each, 16) in there]
         if self._send("unbreak", old or place.addresses[:1]):
@@ -47,11 +50,11 @@ class Breakpoints:
             self._say_done(place)
 
     def find(self, word: str) -> Place:
-        """Return the place that an argument names. Raises LabError."""
+        """Return the place that an argument names. Raises LabError as `Places.find` does."""
         return self._places.find(word, state_of(self._guest)[1])
 
     def check_room(self, word: str, place: Place) -> None:
-        """Raise LabError if a place with several addresses needs more breakpoints than are left."""
+        """Raise LabError if a place with several addresses needs more breakpoints than are left. word: the argument that names it"""
         there = self._there()
         new, left = [each for each in place.addresses if int(each, 16) not in there], MAX_BREAKPOINTS - len(there)
         if len(new) > max(left, 1) or len(new) > left and len(place.addresses) > 1:
@@ -81,7 +84,7 @@ class Breakpoints:
         return reply.addresses if isinstance(reply, Addresses) else ()
 
     def _send(self, command: str, addresses: Sequence[str]) -> bool:
-        """Send a command for each address. Stop at a refusal, and print it. Return whether no command was refused."""
+        """Send a command for each address, up to one that is refused, whose refusal is printed. Return whether none was refused."""
         for address in addresses:
             check_text(f"{command} {address}")
             line = f"{self._guest.user} {command} {address}"

@@ -31,7 +31,10 @@ def add_arguments(parser: argparse.ArgumentParser) -> None:
 
 
 def run(arguments: argparse.Namespace) -> int:
-    """Execute lines up to the end of the input. Raises LabError and OSError if the image or the source can't be loaded."""
+    """Execute lines up to the end of the input or `quit`, and return the exit status 0.
+
+    Raises LabError and OSError if the image or the source can't be loaded.
+    """
     is_terminal = sys.stdin.isatty() and sys.stdout.isatty()
     is_able = is_terminal and os.environ.get("TERM", "dumb") != "dumb"
     screen = Screen(is_able and not os.environ.get("NO_COLOR"))
@@ -101,7 +104,10 @@ def _typed_ahead(is_terminal: bool) -> Iterator[None]:
 
 
 def _plain_line(mark: str) -> str:
-    """Return the next line of standard input; bytes that aren't UTF-8 become non-ASCII characters. Raises EOFError at the end."""
+    """Print a prompt, and return the next line of standard input. Raises EOFError at the end of the input.
+
+    Bytes that aren't UTF-8 become non-ASCII characters. mark: the prompt
+    """
     print(mark, end="", flush=True)
     line = sys.stdin.buffer.readline()
     if not line:

@@ -31,20 +31,23 @@ class Condition:
 
     @classmethod
     def read(cls, text: str, value: Callable[[str], str]) -> "Condition":
-        """Parse a condition. Raises LabError if it is invalid. value: returns a symbol's or a number's hexadecimal digits"""
+        """Parse a condition. Raises LabError if it is invalid.
+
+        value: returns the hexadecimal digits of the value of a symbol or number
+        """
         found = _FORM.fullmatch(text.strip())
         if found is None:
             raise LabError(f"{text.strip()} is no condition: a0 == 5 or vl < 8 is one")
         return cls(text.strip(), found[2], (_side(found[1], value), _side(found[3], value)))
 
     def holds(self, values: Mapping[str, int]) -> bool:
-        """Return whether the condition holds. values: the values of registers, by name"""
+        """Return whether the condition holds. values: the values of all scalar and control registers, by their names in NAMES"""
         left, right = (values[side] if isinstance(side, str) else side for side in self.sides)
         return bool(_SIGNS[self.sign](left, right))
 
 
 class Conditions:
-    """The conditions of a user's breakpoints, by address."""
+    """The conditions of a user's breakpoints. by_address: the conditions, by the breakpoint's address"""
 
     def __init__(self, guest: Guest) -> None:
         self._guest = guest
@@ -70,7 +73,10 @@ class Conditions:
 
 
 def _side(word: str, value: Callable[[str], str]) -> str | int:
-    """Return the name of a register, or else the number that a word means. Raises LabError."""
+    """Return one side of a condition: the name in NAMES of a register, or else the value of a symbol or number. Raises LabError.
+
+    word: the text of the side; value: as in `Condition.read`
+    """
     if word in REGISTERS:
         return REGISTERS[word]
     digits = value(word)

@@ -18,14 +18,14 @@ from .conditions import REGISTERS, Conditions
 from .names import DIGITS, VECTORS, Names, state_of
 from .show import Screen, change_rows, change_text
 
-MAX_ROWS = 6  # that show the changes by a run
+MAX_ROWS = 6  # the most rows that show the changes by a run
 
 
 class Execution:
-    """Executes a user's program, up to a stop, a breakpoint whose condition holds, or an interrupt.
+    """Executes a user's program up to a stop, a breakpoint whose condition holds, or an interrupt, and prints the changes.
 
-    interrupt: is set by Ctrl-C; changes: rows that show the changes by the last run
-    has_mask: whether v0 is the mask of the instruction that was stepped last
+    interrupt: an event that Ctrl-C sets; changes: rows that show the changes by the last run
+    has_mask: whether v0 is the mask of the last instruction, if it was stepped
     """
 
     def __init__(self, guest: Guest, stepper: Stepper, screen: Screen, names: Names, conditions: Conditions) -> None:
@@ -60,7 +60,10 @@ class Execution:
         self._tell_run(None if is_there else stop)
 
     def until_changed(self, name: str) -> None:
-        """Step up to an instruction that changes a register, and show it with its changes, or up to another stop."""
+        """Step to the next instruction that changes a register, and print it with its changes. Stop earlier as `step` does.
+
+        name: the register, in `REGISTERS` or `VECTORS`
+        """
         self._guest.ask("stop")
         self.look()
         before = self._value(name)
@@ -71,7 +74,7 @@ class Execution:
         self.show_place()
 
     def step(self, number: int) -> None:
-        """Step a number of instructions, and show each with its changes."""
+        """Step a number of instructions, and print each with its changes. Stop earlier at a breakpoint, a stop or Ctrl-C."""
         for retired in self._stepped(range(number)):
             self._tell_step(retired)
         self.show_place()
@@ -89,7 +92,8 @@ class Execution:
     def back_to_write(self, digits: str) -> None:
         """Go back to the last instruction that changed bytes in memory. If there is none, stay at the current instruction.
 
-        digits: the address; the bytes are those of the symbol there, or else 8
+        digits: the address of the first byte, in hexadecimal digits. If a symbol is there, the bytes are those of the symbol; otherwise
+            they are 8 bytes
         """
         address, symbols = int(digits, 16) if re.fullmatch(DIGITS, digits) else -1, self._names.symbols
         sizes = (symbols.sizes.get(name, 0) for name, at in symbols.addresses.items() if at == address)
@@ -182,7 +186,7 @@ class Execution:
         return rows
 
     def _value(self, name: str) -> object:
-        """Return the value that a register had when it was last read."""
+        """Return the value that a register had when the registers were last read. name: in `REGISTERS` or `VECTORS`"""
         registers = self._stepper.registers
         if name in VECTORS:
             return bytes(registers.v[VECTORS[name] * REGISTER_BYTES :][:REGISTER_BYTES])

@@ -46,7 +46,7 @@ HELP_ON_LOAD = f"load reloads the console's image; {HELP_ON_SOURCES}"
 
 
 class Console:
-    """One user's machine, which executes lines.
+    """The console: it executes lines at one user's machine, and prints the results.
 
     is_open: False after `quit`
     """
@@ -63,7 +63,7 @@ class Console:
         self._program: Sequence[str] = ["load", "image"]  # the command that loaded the program
 
     def do(self, entry: str) -> None:
-        """Execute the lines of an entry. Ctrl-C stops the program, and skips the lines after the current one."""
+        """Execute the lines that the user has entered at once. Ctrl-C stops the program, and skips the lines after the current one."""
         before = signal.signal(signal.SIGINT, lambda *_: self.execution.interrupt.set())
         self.execution.interrupt.clear()
         try:
@@ -74,9 +74,9 @@ class Console:
             signal.signal(signal.SIGINT, before)
 
     def source(self, path: pathlib.Path) -> None:
-        """Load an assembler source into a new state of the user's machine.
+        """Let the user leave and enter again, and load an assembler source.
 
-        Raises LabError and OSError; then the machine is unchanged.
+        Raises LabError if the source has mistakes, and OSError if it can't be read. After an error the machine is unchanged.
         """
         content = path.read_bytes()
         if path.suffix == ".c" or content.startswith(b"\x7fELF"):
@@ -105,7 +105,7 @@ class Console:
         return f"pc {self.names.place(pc)}   vtype {vtype_text(control.vtype)}   vl {control.vl}   policy {policy}"
 
     def _execute(self, line: str) -> None:
-        """Execute a line; print the mistakes in it."""
+        """Execute a line. If it can't be executed, print why."""
         try:
             self._dispatch(self.names.words(line))
         except OSError as error:
@@ -114,7 +114,10 @@ class Console:
             self._screen.say(str(error), kind="refused")
 
     def _dispatch(self, command: list[str]) -> None:
-        """Execute a command of the console, or send it to the machine. Raises LabError and OSError."""
+        """Execute a command of the console, or send another command to the machine. Raises LabError and OSError.
+
+        command: the name of the command and its arguments, from `Names.words`
+        """
         match command:
             case ["help", *name]:
                 self._screen.say(*help_on_console(" ".join(name)))
@@ -186,7 +189,7 @@ class Console:
         return answer
 
     def _shown(self, answer: Answer, lines: Sequence[str]) -> Iterable[str]:
-        """Return the rows in which the console shows an answer. lines: the answer's lines"""
+        """Return the rows in which the console shows an answer. lines: the lines of the answer, for answers without a form of their own"""
         registers = self._stepper.registers
         match answer:
             case ScalarRegisters():
@@ -230,7 +233,7 @@ class Console:
             self.execution.show_place()
 
     def _until(self, word: str) -> None:
-        """Run the program until it reaches one of a place's addresses."""
+        """Run the program until it reaches one of a place's addresses. Raises LabError. word: the argument that names the place"""
         place = self._breakpoints.find(word)
         self._breakpoints.check_room(word, place)
         self._screen.say(*filter(None, [place.taken]))

@@ -14,9 +14,10 @@ LINES_BEFORE, LINES = 4, 10  # source lines before the requested one, and in tot
 
 @dataclass(frozen=True)
 class OwnSource:
-    """A source that the console has assembled: its file, and its text then.
+    """A source that the console has assembled.
 
-    lines: the line number of each instruction, by address
+    path: the path of its file; text: its text when it was assembled
+    lines: the line number of each instruction, by the instruction's address
     """
 
     path: pathlib.Path
@@ -25,9 +26,9 @@ class OwnSource:
 
 
 class SourceListing:
-    """The source of the program.
+    """The source of the loaded program.
 
-    own: the source that the console has assembled; None if the sources are those that the image's debug data names
+    own: the source that the console has assembled; None for an image, whose debug data names its sources
     """
 
     def __init__(self, names: Names) -> None:
@@ -35,9 +36,9 @@ class SourceListing:
         self._names = names
 
     def rows(self, address: int, pc: int) -> Iterator[str]:
-        """Yield rows of the source around the line of an address. The row of `pc` is marked.
+        """Yield rows of the source around the line of the instruction at an address. The row of the instruction at `pc` is marked.
 
-        Raises LabError if the line isn't known, and OSError if the source can't be read.
+        Raises LabError if the instruction's line isn't known, and OSError if the source can't be read.
         """
         path, number = self._line(address)
         here = None
@@ -50,7 +51,7 @@ class SourceListing:
             yield f"{'=>' if here == (path, at) else '  '} {at:4}  {line.expandtabs()}".rstrip()
 
     def _line(self, address: int) -> tuple[pathlib.Path, int]:
-        """Return the source of an instruction, and its line number. Raises LabError if they aren't known."""
+        """Return the path of an instruction's source, and the number of the instruction's line. Raises LabError if they aren't known."""
         if self.own and address in self.own.lines:
             return self.own.path, self.own.lines[address]
         path = self.own.path if self.own else self._names.symbols.path

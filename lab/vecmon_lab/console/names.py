@@ -41,14 +41,17 @@ GDB_COMMANDS = {
 
 
 class Names:
-    """The names that a user's lines may contain. symbols: those of the program that is loaded"""
+    """The names that a user's lines may contain. symbols: the symbols of the loaded program"""
 
     def __init__(self, guest: Guest, stepper: Stepper, symbols: Symbols) -> None:
         self.symbols = symbols
         self._guest, self._stepper = guest, stepper
 
     def choices(self, kind: str) -> Iterable[str]:
-        """Return the values that an argument may have. kind: its name in a command's form, or TOPIC for `help`"""
+        """Return the values that an argument may have; none if they can't be listed.
+
+        kind: the argument's name in the command's form, such as `ADDR`, or TOPIC for the argument of `help`
+        """
         if kind == "TOPIC":
             described = (name for name, record in records().items() if record.kind != "absent")
             return {*COMMANDS, *MEANINGS, *instruction_table(), *described}
@@ -72,12 +75,12 @@ class Names:
         return words[:1] + [self.named(word, kind) for word, kind in zip(words[1:], [*form[1:], ""])]
 
     def named(self, word: str, kind: str) -> str:
-        """Return an argument for the monitor.
+        """Return the argument to send to the monitor in place of an argument of a line.
 
         The name of a register becomes its number, a symbol (main or main+8) its address in hexadecimal digits; 0x is removed.
         Other arguments are unchanged. Raises LabError for an unknown or ambiguous symbol.
 
-        kind: the argument's name in the command's form
+        word: the argument of the line; kind: the argument's name in the command's form, such as `ADDR`
         """
         if kind == "xN":
             return REGISTERS.get(word, word)
@@ -113,7 +116,7 @@ def state_of(guest: Guest) -> tuple[str, int]:
 
 
 def remedy_of(word: str) -> str:
-    """Return the end of a message about an unknown command: the command to type instead; "" if the command exists."""
+    """Return the end of a message about an unknown command: which command to type instead. Return "" if the command exists."""
     if word in COMMANDS or f"* {word}" in COMMANDS:
         return ""
     name = word.partition("/")[0]  # x/4w
@@ -122,5 +125,5 @@ def remedy_of(word: str) -> str:
 
 
 def gdb_command(name: str) -> str | None:
-    """Return the console's command for one of gdb's command names, or None if the name is unknown."""
+    """Return the console's command that is nearest to one of gdb's commands; None if the name isn't in GDB_COMMANDS."""
     return next((own for own, names in GDB_COMMANDS.items() if name in names.split()), None)

@@ -16,8 +16,8 @@ _RUNTIMES = {path.name for path in RUNTIME.glob("*")}
 class Place(NamedTuple):
     """A place of code.
 
-    addresses: hexadecimal digits, or a word that the monitor refuses
-    taken: a text that says how a number was interpreted; "" if there is no doubt
+    addresses: the addresses in hexadecimal digits, or one word that the monitor refuses
+    taken: a sentence that says whether a number was taken as a line or as an address; "" if it can't be misunderstood
     is_address: whether the user named an address, or a symbol with one address
     """
 
@@ -33,9 +33,9 @@ class Places:
         self._names, self._listing = names, listing
 
     def find(self, word: str, pc: int) -> Place:
-        """Return the place that an argument names. pc: the program counter
+        """Return the place that an argument names. Raises LabError if there is no such place, or if several functions have the name.
 
-        Raises LabError if there is no such place, or if several functions have the name.
+        word: the argument; pc: the program counter
         """
         if found := _LINE.fullmatch(word):
             return Place(self._of_line(*found.groups()))
@@ -47,14 +47,17 @@ class Places:
 
     @property
     def _stops(self) -> Mapping[str, Sequence[int]]:
-        """The addresses of breakpoints by line, as `sum.c:12`."""
+        """The addresses of breakpoints, by the line, such as `sum.c:12`."""
         if self._listing.own is None:
             return self._names.symbols.source.stops
         own = self._listing.own
         return {f"{own.path.name}:{line}": [address] for address, line in sorted(own.lines.items(), reverse=True)}
 
     def _of_line(self, file: str, number: str) -> list[str]:
-        """Return the addresses of a line. Raises LabError if it has none."""
+        """Return the addresses of a line's breakpoints in hexadecimal digits. Raises LabError if no instruction is of this line.
+
+        file: the name of the source; number: the line's number, in digits
+        """
         stops, symbols = self._stops, self._names.symbols
         if addresses := stops.get(f"{file}:{number}"):
             return [f"{address:x}" for address in addresses]
@@ -68,7 +71,7 @@ class Places:
         raise LabError(f"no instruction is of line {number} of {file}; {file}:{later} has some")
 
     def _of_number(self, word: str, pc: int) -> Place:
-        """Return the place for a number at which the program has no symbol.
+        """Return the place that a number names, if the program has no symbol at or before it as an address.
 
         It is a line of the file where the program is stopped, or of `main`'s file, or else an address.
         """

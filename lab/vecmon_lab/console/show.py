@@ -43,7 +43,7 @@ class Screen:
         self._is_new_line = data.endswith(b"\n")
 
     def say(self, *rows: str, kind: str = "") -> None:
-        """Print rows in the colour of a kind. A row that is too long for the terminal is wrapped after a word."""
+        """Print rows. A row that is too long for the terminal is wrapped after a word. kind: as in `paint`"""
         columns = self.columns
         wrap = textwrap.TextWrapper(
             columns, subsequent_indent=" " * 8, break_long_words=False, break_on_hyphens=False
@@ -60,13 +60,14 @@ class Screen:
             print(f"{sentence[:1].upper()}{sentence[1:]}.", file=sys.stderr, flush=True)
 
     def paint(self, text: str, kind: str) -> str:
-        """Return a text in the colour of its kind; without colour if the kind is empty."""
+        """Return a text in the colour of a kind, a key of COLOURS; unchanged if the kind is empty or there are no colours."""
         return f"\033[{COLOURS[kind]}m{text}\033[0m" if kind and self._has_colours else text
 
     def element_rows(self, register: VectorRegister, control: ControlRegisters, mask: int | None) -> Iterator[str]:
         """Yield rows with the elements of a register. Elements in the tail, and masked-off elements, have colours.
 
-        mask: the bits of the mask, or None if there is no mask
+        control: the control registers, which decide which elements are the tail
+        mask: the bits of v0 as a number, bit 0 for element 0; None if v0 isn't a mask
         """
         values = [f"{value:0{register.width // 4}x}" for value in elements_in(register.data, register.width)]
         name, group = f"v{register.number}", max(1, int(Fraction(register.width, control.sew) * control.lmul))
@@ -79,7 +80,10 @@ class Screen:
 
 
 def _placement(element: int, control: ControlRegisters, mask: int | None) -> str:
-    """Return whether an element is in the tail, masked off, or neither; without a vector type, neither."""
+    """Return `tail` or `masked` for an element in the tail or a masked-off element, and otherwise "". If vtype is vill, return "".
+
+    element: the index of the element; mask: as in `Screen.element_rows`
+    """
     if control.vtype >> 63:
         return ""
     if element >= control.vl:
@@ -88,7 +92,7 @@ def _placement(element: int, control: ControlRegisters, mask: int | None) -> str
 
 
 def both_names(name: str) -> str:
-    """Return a scalar register with its number and its ABI name, as x10/a0."""
+    """Return both names of a scalar register, as x10/a0. Another name is unchanged. name: such as x10"""
     return f"{name}/{ABI_NAMES[name]}" if name in ABI_NAMES else name
 
 
@@ -112,7 +116,7 @@ def change_rows(texts: Iterable[str], width: int) -> Iterator[str]:
 
 
 def _pieces(text: str, limit: int) -> list[str]:
-    """Split a change into pieces of at most `limit` characters. A piece ends after a number, a name or a byte's digits."""
+    """Return a change in pieces of at most `limit` characters. A piece ends after a number, a name, or the digits of a byte."""
     if len(text) <= limit:
         return [text]
     if "," in text:
@@ -138,7 +142,7 @@ def control_row(control: ControlRegisters, policy: str) -> str:
 
 
 def memory_rows(memory: Memory, width: int) -> Iterator[str]:
-    """Yield rows of at most 16 bytes, as digits and as ASCII."""
+    """Yield rows of at most 16 bytes of memory, as hexadecimal digits and as ASCII. width: the most characters in a row, if it has several bytes"""
     room = max(each for each in (1, 2, 4, 8, ROW_BYTES) if each == 1 or 4 * each + 11 <= width)
     for place in range(0, len(memory.data), room):
         row = memory.data[place : place + room]

@@ -46,8 +46,8 @@ class ElementsChange:
     """Consecutive elements that changed in a vector register group.
 
     register: the number of the group's first register
-    width: of an element, in bits; 1 for a mask, whose bits are all listed from the first changed one to the last
-    first: the index of the first element; before, after: the elements' values
+    width: the width of an element in bits; 1 for a mask. For a mask, all bits from the first changed one to the last are listed
+    first: the index of the first element; before, after: the values of the elements
     """
 
     register: int
@@ -82,7 +82,10 @@ Change = RegisterChange | ElementsChange | MemoryChange
 class Retired:
     """An instruction that was executed, or that stopped the program instead.
 
-    word, text: 0 and "" if no instruction can be fetched; stop: None if the instruction was executed
+    pc: the address of the instruction
+    word, text: the instruction's word and text; 0 and "" if no instruction can be fetched
+    changes: the changes of registers and memory by the instruction
+    stop: the stop of the program; None if the instruction was executed
     """
 
     pc: int
@@ -119,7 +122,7 @@ class Stepper:
     """Steps a guest, and returns the changes by each instruction. Call `look` if the guest was changed in another way.
 
     registers: the current registers
-    last: the last stepped instruction, with the registers before it; None if anything else was done since
+    last: the registers before the last stepped instruction, and this instruction; None if `look` was called since then
     """
 
     def __init__(self, guest: Guest) -> None:
@@ -140,7 +143,7 @@ class Stepper:
         return self._changes_since(before, singles)
 
     def step(self) -> Retired:
-        """Execute one instruction, and return it with its changes. Its output is passed on, or stored for `Guest.output`."""
+        """Execute one instruction, and return it with its changes. Its output goes to the guest's `write`, or to `Guest.output`."""
         pc, before = self.guest.pc, self.registers.copy()
         word, text = self.fetch(pc)
         if word == ECALL:
@@ -186,7 +189,7 @@ class Stepper:
                     self.registers.v[at : at + REGISTER_BYTES] = answer.data
 
     def _changes_since(self, before: Registers, targets: Sequence[Operand]) -> list[Change]:
-        """Return the changed registers. Of vector registers, only compare those of the operands `targets`."""
+        """Return the changes of registers since `before`. Of the vector registers, compare only those of the operands `targets`."""
         pairs = zip(NAMES, before.values(), self.registers.values())
         changed = [RegisterChange(name, old, new) for name, old, new in pairs if old != new]
         elements = (_element_changes(target, before, self.registers) for target in targets)
@@ -209,7 +212,10 @@ def _element_changes(target: Operand, before: Registers, after: Registers) -> It
 
 
 def _memory_changes(span: Span, *answers: Answer) -> Iterator[MemoryChange]:
-    """Yield the bytes of a span that changed, in runs. answers: of `peek` before and after; nothing is yielded for unmapped bytes"""
+    """Yield the runs of changed bytes in a span; nothing for an unmapped span.
+
+    answers: the answers to `peek` for this span before and after the instruction
+    """
     before, after = (answer.data if isinstance(answer, Memory) else b"" for answer in answers)
     for first, last in runs(before, after):
         yield MemoryChange(span[0] + first, before[first:last], after[first:last])

@@ -4,7 +4,7 @@ from collections.abc import Collection, Mapping
 
 from ..instructions.scalar_registers import scalar_written
 
-BACK = 32  # instructions before a place that are searched
+BACK = 32  # the number of instructions before a place that are searched for the constant
 _JUMPS = (0x67, 0x6F)  # opcodes of jalr and jal, after which other code has run
 _OP_IMM, _OP_IMM_32, _LUI, _AUIPC = 0x13, 0x1B, 0x37, 0x17  # opcodes
 _ADD, _SHIFT_LEFT = 0, 1  # funct3
@@ -23,7 +23,7 @@ def constant_before(words: Mapping[int, int], joins: Collection[int], place: int
 
 
 def _search(words: Mapping[int, int], joins: Collection[int], place: int, register: int, first: int) -> int | None:
-    """Return the constant as `constant_before` does. first: the first address to search"""
+    """Return the constant as `constant_before` does. first: the lowest address of an instruction to search"""
     if register == 0:
         return 0
     while place not in joins and place - 4 >= first:
@@ -37,7 +37,10 @@ def _search(words: Mapping[int, int], joins: Collection[int], place: int, regist
 
 
 def _result(words: Mapping[int, int], joins: Collection[int], place: int, first: int) -> int | None:
-    """Return the result of the instruction at an address; None unless it is an addition or a shift of constants."""
+    """Return the result of the instruction at an address; None if it isn't lui, auipc, or an addition or left shift of a constant.
+
+    words, joins, first: as in `_search`
+    """
     word = words[place]
     opcode, funct3, immediate = word & 0x7F, word >> 12 & 7, (word >> 20) - (word >> 31 << 12)
     upper = (word >> 12 << 12) - (word >> 31 << 32)

@@ -17,7 +17,7 @@ def printable(name: str) -> str:
 
 
 def name_of(entry: "DIE") -> str:
-    """Return the name of a function or a variable. It may be at the entry's declaration."""
+    """Return the name of a function or a variable, which its entry or the entry's declaration has; "" if neither has one."""
     for _ in range(MAX_ORIGINS):
         if "DW_AT_name" not in entry.attributes and "DW_AT_abstract_origin" in entry.attributes:
             entry = entry.get_DIE_from_attribute("DW_AT_abstract_origin")

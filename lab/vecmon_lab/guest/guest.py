@@ -36,9 +36,9 @@ IMAGE_BYTES, ARGUMENT_BYTES = 4_194_304, 8192  # the largest file; the largest p
 QUANTUM = 1000  # the ticks of the longest slices, since there is no other program
 MAX_STEPS, MAX_ROUNDS = 256, 1000  # steps of one line; lines that are sent before their answers are read
 PACES = ((MAX_STEPS, OUTPUT_BYTES - 1), (SAFE_STEPS, OUTPUT_BYTES))
-"""Pairs of a number of steps in one line, and the most bytes of output after which every call surely had room in the buffer.
+"""Pairs: the number of instructions that one line steps, and the most bytes of output with which each call certainly had room.
 
-With the last pair, every call surely has room.
+With the last pair, each call certainly has room in the output buffer.
 """
 
 VECTOR_LOOKS = [f"vreg v{number} 64" for number in range(32)]
@@ -51,8 +51,8 @@ AnswerType = TypeVar("AnswerType", bound=Answer)
 class Guest:
     """A user's program in a session. Between calls of its methods, the program is stopped.
 
-    pc: its program counter, from the answers to `start`, `go` and `step`, or from `regs` of a `Stepper`
-    ticks: the ticks that `go` has granted, in whole slices
+    pc: the program counter after `start`, `go`, `step` or a similar call, or after a `Stepper` has read the registers
+    ticks: the number of ticks that `go` has granted, in whole slices
     start_commands: the commands that `start` sent after `load`, without the policy
     end: the address of the ebreak after the program's last instruction; 0 if there is none or it is unknown
     write: is called with the program's output
@@ -96,7 +96,7 @@ class Guest:
         return answer
 
     def peek(self, address: int, length: int) -> bytes:
-        """Return the bytes from an address on. All must be in mapped pages."""
+        """Return a number of bytes from an address on. All of them must be in mapped pages."""
         return b"".join(answer.data for answer in self.ask(*peeks(address, length)) if isinstance(answer, Memory))
 
     def vectors(self) -> list[bytes]:
@@ -105,7 +105,7 @@ class Guest:
         return [answer.data for answer in answers if isinstance(answer, VectorRegister)]
 
     def words(self, addresses: Iterable[int]) -> list[Word]:
-        """Return the words at addresses in mapped pages, with their texts."""
+        """Return the words at addresses, with their texts, in the order of the addresses. Words in unmapped pages are left out."""
         answers = self.ask(*(f"dis {run[0]:x} {len(run)}" for run in runs_of(addresses)))
         return [word for answer in answers if isinstance(answer, Listing) for word in answer.words]
 
@@ -116,8 +116,9 @@ class Guest:
 
         Raises LabError if the image is refused, or if the arguments or the data don't fit.
 
-        arguments: the first is the program's name; if there are none, the stack isn't written
-        data: bytes to write to memory, by address
+        image: the image's name in the session; policy: `keep` or `ones`
+        arguments: the program's name and its arguments; if there are none, the stack isn't written
+        data: bytes to write to memory, by the address of the first byte
         """
         block = argument_block(arguments)
         _, loaded, _ = self.ask(
@@ -166,14 +167,14 @@ class Guest:
         return stop, self.ask(*looks)
 
     def go_back(self, size: int, pc: int) -> None:
-        """Go back to the time when the script had `size` bytes, in a new session. pc: the program counter at that time"""
+        """Go back to the state when the script had `size` bytes, in a new session. pc: the program counter in this state"""
         session = self.session.rewound(self.session.script[:size])
         session.on_lines = self.session.on_lines
         self.session.close()
         self.session, self.pc = session, pc
 
     def step(self) -> Stop | None:
-        """Execute one instruction. Return the stop if the instruction stops the program, or else None. Read the output before."""
+        """Read the output, and then execute one instruction. Return the stop if the instruction stops the program, or else None."""
         self.empty_buffer()
         if self.runner.has_uncertain():
             self.runner.look(self.pc)
@@ -182,9 +183,11 @@ class Guest:
     def step_between(
         self, before: Sequence[str], after: Sequence[str], number: int = 1
     ) -> tuple[Stop | None, list[Answer]]:
-        """Execute instructions as `step` does, between commands that only read, all sent together. Also return the commands' answers.
+        """Execute instructions, with read-only commands before and after them, all sent together.
 
-        The stop may be `outfull`, at an ecall. number: of instructions, 1 to 256
+        Return the stop or None, and the answers to the commands. Since the output isn't read, the stop may be `outfull`, at an ECALL.
+
+        before, after: the commands; number: the number of instructions, 1 to 256
         """
         answers = self.ask(*before, f"step {number}", *after)
         reply = answers.pop(len(before))
@@ -194,11 +197,11 @@ class Guest:
         return reply if isinstance(reply, Stop) else None, answers
 
     def pass_over(self, instructions: int, at_once: int = MAX_STEPS, limit: int = OUTPUT_BYTES) -> bool:
-        """Execute a number of instructions, which don't stop the program, in groups. Read the output after each group.
+        """Execute a number of instructions in groups, and read the output after each group. The program mustn't stop meanwhile.
 
-        Return False, and don't go on, if a group wrote more than `limit` bytes.
+        Return True. If a group wrote more than `limit` bytes, return False without executing further lines.
 
-        at_once: the instructions in a group
+        at_once: the number of instructions in a group
         """
         while instructions:
             part = min(instructions, MAX_ROUNDS * at_once)
@@ -215,7 +218,7 @@ class Guest:
         self.emit_output(self.query("out", Output).data)
 
     def output(self) -> bytes:
-        """Return the program's output since the last call; empty if `write` receives it, which has happened on return."""
+        """Return the program's output since the last call. If the guest has a function `write`, pass the output to it; return b""."""
         self.empty_buffer()
         kept = b"".join(self._kept)
         self._kept.clear()
@@ -231,14 +234,14 @@ class Guest:
         return stop.kind == "ebreak" and stop.pc in (RETURN, self.end)
 
     def explain(self, stop: Stop) -> str:
-        """Return sentences that explain a stop, by the instruction there."""
+        """Return sentences that explain a stop, from the instruction at its address and the vector state."""
         word, text = self.word_at(stop.pc)
         return describe_stop(stop, word, self.query("vcsr", ControlRegisters), text, self.end)
 
     def describe(self, stop: Stop | None, place: str = "") -> str:
         """Return a line about a stop: its address, the place relative to a symbol, the instruction, and the cause.
 
-        stop: None if the ticks ran out; place: as `main+0x8`, or ""
+        stop: the stop; None if the ticks ran out; place: such as `main+0x8`; "" if it is unknown
         """
         if stop is None:
             return f"the ticks ran out at {self.pc:x} {place}".rstrip()
@@ -267,7 +270,9 @@ def started(
 ) -> Iterator[Guest]:
     """Load an image into a new machine, and yield its guest. The machine ends with the context.
 
-    file: the program's input; name: the image's name in messages, by default its path
+    policy: `keep` or `ones`; quantum: the number of ticks in a slice; arguments: as in `Guest.start`
+    file: the file to put into the program's memory as its input, or None; write, report: as in `Guest`
+    name: the image's name in messages; by default its path
 
     Raises LabError and OSError if the image can't be read or is refused, or if there is no vecmon.
     """
@@ -297,7 +302,7 @@ def check_image(path: pathlib.Path) -> None:
 
 
 def runs_of(addresses: Iterable[int]) -> list[list[int]]:
-    """Return addresses of words in runs of at most 16 consecutive words."""
+    """Return addresses of words in rising order, divided into runs of at most 16 consecutive words."""
     runs: list[list[int]] = []
     for address in sorted(addresses):
         if not runs or len(runs[-1]) == 16 or address != runs[-1][-1] + 4:
@@ -309,7 +314,9 @@ def runs_of(addresses: Iterable[int]) -> list[list[int]]:
 def stepping(instructions: int, at_once: int = MAX_STEPS) -> Iterator[str]:
     """Yield commands that execute a number of instructions in groups, and read the output after each group.
 
-    Groups are always the same, so that in a replay the calls have the same room in the buffer. at_once: the instructions in a group
+    For the same arguments the groups are always the same, so that in a replay the calls have the same room in the buffer.
+
+    at_once: the number of instructions in a group
     """
     for done in range(0, instructions, at_once):
         yield from (f"step {min(at_once, instructions - done)}", "out")

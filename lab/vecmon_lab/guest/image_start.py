@@ -15,7 +15,8 @@ END_SYMBOL = "etext"
 class ImageStart(NamedTuple):
     """The start of an image.
 
-    commands: those to send after `load`, without the user's digit; end: the address after the last instruction, 0 if unknown
+    commands: the commands to send after `load`, without the user's digit
+    end: the address after the last instruction, where the ebreak is; 0 if it is unknown
     """
 
     commands: tuple[str, ...] = ()

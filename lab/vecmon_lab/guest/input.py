@@ -10,9 +10,9 @@ MEMORY_BYTES = 1 << 20  # the most memory that a user can have
 
 
 def input_of(image: pathlib.Path, file: pathlib.Path) -> dict[int, bytes]:
-    """Return the contents of memory, by address: the file at the symbol `input`, and its size in 8 bytes at `input_size`.
+    """Return the bytes to write to memory, by address: the file at the symbol `input`, and its size in 8 bytes at `input_size`.
 
-    Raises LabError if a symbol is missing or has too little room, and OSError.
+    Raises LabError if the image lacks one of these symbols or has too little room there, and OSError if a file can't be read.
     """
     symbols = Symbols.read(image)
     place, size_place = map(symbols.addresses.get, ("input", "input_size"))

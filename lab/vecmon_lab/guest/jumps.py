@@ -11,7 +11,7 @@ if TYPE_CHECKING:
     from elftools.elf.elffile import ELFFile
 
 Ranges = Sequence[tuple[int, int]]
-"""Address ranges: the first address of each range, and the address after its last."""
+"""Address ranges: the first address of each range, and the address after its last one."""
 
 _CODE = 4  # SHF_EXECINSTR: the section has instructions
 _ADDRESSES = (1 << 64) - 1
@@ -36,12 +36,12 @@ class Code:
         return 0
 
     def entries(self, part: Ranges, whole: Ranges) -> list[int]:
-        """Return the addresses where a part of a function is entered first, in rising order; none if only a jump by register enters it.
+        """Return the addresses where paths from a function's first instruction first reach a part of the function, in rising order.
 
-        They are where paths from the function's first instruction reach the part. A path ends there, so an address
-        where it would reach the part again, after a gap, isn't an entry.
+        A path isn't followed after it has reached the part, so an address where it would come back to the part isn't among them.
+        There are no addresses if only a jump to an address in a register enters the part.
 
-        part, whole: the ranges of the part and of the function
+        part, whole: the address ranges of the part and of the function
         """
         waiting, seen, found = [whole[0][0]], set[int](), set[int]()
         while waiting:
@@ -65,7 +65,7 @@ def is_call(word: int) -> bool:
 
 
 def may_jump(word: int) -> bool:
-    """Return whether an instruction is a branch, a jump, a call or `ebreak`, after which another than the next word may execute."""
+    """Return whether another word than the next one may be executed after an instruction: a branch, a jump, a call or `ebreak`."""
     return word & 0x7F in (_BRANCH, _JUMP, _JUMP_TO_REGISTER, _SYSTEM)
 
 
@@ -87,7 +87,10 @@ def jump_target(address: int, word: int) -> int | None:
 
 
 def _targets(address: int, word: int) -> Iterator[int]:
-    """Yield the addresses of the instructions in the function that may follow one. A call is followed by the next instruction."""
+    """Yield the addresses of instructions that may be executed after an instruction. A call is also followed by the next word.
+
+    address, word: the address and the word of the instruction
+    """
     opcode, rd, target = word & 0x7F, word >> 7 & 31, jump_target(address, word)
     if target is not None:
         yield target

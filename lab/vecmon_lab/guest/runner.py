@@ -23,8 +23,10 @@ OUTPUT_BYTES, WRITE_BYTES = 1024, 256  # the size of the buffer; the most bytes 
 MAX_BREAKPOINTS = 16  # a user's limit
 MAX_LOOKS = 1000  # times that the registers are read at uncertain calls
 MAX_SLICES, MAX_TICKS = 1000, 1_000_000  # slices of one line; ticks between two reads of the output
-LITTLE_BYTES, MUCH_BYTES = 256, 512  # of output: up to LITTLE, the next read is later; above MUCH, earlier
-CALLS_OF_A_SLICE = 256  # stops at calls that count as a slice, as OUTPUT_BYTES of output do
+LITTLE_BYTES, MUCH_BYTES = 256, 512  # up to LITTLE_BYTES of output, the next read is later; above MUCH_BYTES, earlier
+CALLS_OF_A_SLICE = (
+    256  # the number of stops at calls that count as one slice; OUTPUT_BYTES of output count as one as well
+)
 
 SAFE_STEPS = 7
 """A number of instructions whose calls always have room in an empty buffer. A call that writes more than a byte leaves a value
@@ -36,7 +38,7 @@ Report = Callable[[int, str], object]
 
 
 def unreported(pc: int, sentence: str) -> None:
-    """Ignore an unsupported call, in a run that is repeated."""
+    """Do nothing about an unsupported call. This is the `report` of a run that repeats another run, which has reported the calls."""
 
 
 class Reporter:
@@ -73,9 +75,11 @@ class Runner:
         self._calls = self._bytes = 0  # stops at calls, and bytes of output, since the last slice was counted
 
     def go(self, slices: int | None, is_interrupted: Callable[[], bool]) -> Stop | None:
-        """Run the program to a stop, and return it; None after this number of slices, or after an interruption.
+        """Run the program to a stop, and return the stop; None after a number of slices, or after an interruption.
 
         A slice that ends before a call counts no ticks. CALLS_OF_A_SLICE such slices, or OUTPUT_BYTES of output, count as one slice.
+
+        slices: the most slices to run; None for no limit; is_interrupted: is called between slices
         """
         guest = self._guest
         self._breaks, at_once, stop = guest.query("breaks", Addresses).addresses, 1, None
@@ -106,9 +110,9 @@ class Runner:
         return stop
 
     def pass_slices(self, number: int) -> tuple[Stop | None, bool]:
-        """Run a number of slices, at most 1,000, which don't stop before calls. Return the stop, and whether they were run.
+        """Run a number of slices, at most 1,000, without stops before calls. Return the stop or None, and True.
 
-        They aren't run if a call may have had too little room for its output: then the program is where it was before.
+        If a call may have had too little room for its output, go back to the state before these slices, and return None and False.
         """
         guest = self._guest
         self._breaks, self._places = guest.query("breaks", Addresses).addresses, ()
@@ -121,7 +125,10 @@ class Runner:
         return stop, True
 
     def look(self, pc: int, x: Sequence[int] | None = None) -> None:
-        """Report the call at an address, which is the next instruction, if it is unsupported. x: the registers, if known"""
+        """Report the next instruction if it is an unsupported call. pc: its address; x: the scalar registers; None to read them
+
+        If `x` is given, the instruction must be an ECALL.
+        """
         if self.looks_left and (x or pc in self._code.uncertain):
             self.looks_left -= 1
             sentence = unsupported_call(x or self._guest.query("regs", ScalarRegisters).x)
@@ -136,14 +143,14 @@ class Runner:
         return self.looks_left > 0 and bool(self._code.uncertain)
 
     def _choose_places(self) -> None:
-        """Set breakpoints at all ECALLs if the output is read there, or else at the uncertain ones."""
+        """Set breakpoints at all ECALLs if the output is read before each call, and otherwise only at uncertain ECALLs."""
         places = self._code.places if self._stops_at_calls else self._code.uncertain if self.looks_left else ()
         free, own = MAX_BREAKPOINTS - len(self._breaks), [place for place in places if place not in self._breaks]
         self._is_stepping = self._is_stepping or self._stops_at_calls and len(own) > free
         self._set_places(() if self._is_stepping else own[:free])
 
     def _set_places(self, places: Sequence[int]) -> None:
-        """Set the breakpoints that aren't the user's, in place of earlier ones."""
+        """Set breakpoints at these addresses, and remove the earlier ones that aren't the user's."""
         removed, added = set(self._places).difference(places), set(places).difference(self._places)
         commands = [
             *(f"unbreak {place:x}" for place in sorted(removed)),
@@ -153,7 +160,7 @@ class Runner:
         self._places = places
 
     def _run_on(self, slices: int) -> tuple[Stop | None, int, bytes]:
-        """Grant slices. Return the stop that ended them, their number, and the output."""
+        """Grant slices, at most this number. Return the stop that ended them or None, how many were used, and the output."""
         guest, used = self._guest, 0
         guest.ask("go")
         while used < slices:
@@ -166,7 +173,7 @@ class Runner:
         return stop, used, guest.query("out", Output).data
 
     def _grant(self, number: int) -> tuple[int, Stop | None]:
-        """Grant slices. Return their number, and the stop that ended them."""
+        """Grant slices, at most this number, to the running program. Return how many were used, and the stop that ended them or None."""
         granted = read(self._guest.session.do(f"* slices {number}"))
         assert isinstance(granted, Granted)
         if not granted.stops:
@@ -176,7 +183,7 @@ class Runner:
         return granted.slices, stop
 
     def _halt(self) -> Stop | None:
-        """Stop the running program. If its next slice would stop at a breakpoint, grant that slice first."""
+        """Stop the running program, and return None. If its next slice would stop it at a breakpoint, grant this slice; return the stop."""
         breaks = {*self._breaks, *self._places}
         while breaks and self._guest.query("state", Position).pc in breaks:
             if stop := self._grant(1)[1]:
@@ -205,7 +212,10 @@ class Runner:
         return 1
 
     def _go_back(self, size: int, pc: int) -> None:
-        """Go back to when the script had `size` bytes, and read the output more often from there on. pc: the program counter then"""
+        """Go back to the state when the script had `size` bytes, and read the output more often from then on.
+
+        pc: the program counter in this state
+        """
         self._guest.go_back(size, pc)
         self._stops_at_calls, self._is_stepping = True, self._stops_at_calls
         self._choose_places()

@@ -26,6 +26,7 @@ _FUNCTION, _INLINED = "DW_TAG_subprogram", "DW_TAG_inlined_subroutine"
 class SourceRow(NamedTuple):
     """A row of a line table.
 
+    address: the address of the first instruction to which the row applies
     line: the file and the line, as `sum.c:12`; "" if there is no line, or at the end of a sequence
     is_statement: whether the compiler recommends the address for a breakpoint
     """
@@ -38,10 +39,13 @@ class SourceRow(NamedTuple):
 class Copy(NamedTuple):
     """An address range of a function's code, or of an inlined copy of a function.
 
-    depth: the number of entries around it; first, end: its first address, and the address after its last
-    number: the same for all ranges of a copy; outer: the number of the copy around it, or -1
-    declared, called: where the function is declared, and where an inlined copy is called, as `sum.c:12`; or else ""
-    entries: the addresses where its code is entered, in rising order
+    depth: the number of debug data entries around the copy's entry
+    first, end: the first address of the range, and the address after its last one
+    number: a number that all ranges of the copy have; outer: the number of the copy that contains this copy; -1 if there is none
+    name: the function's name
+    declared: where the function is declared, as `sum.c:12`; "" if unknown
+    called: where the inlined copy is called, as `sum.c:12`; "" if unknown, or if this is the function's own code
+    entries: the addresses where the copy's code is entered, in rising order
     """
 
     depth: int
@@ -58,7 +62,8 @@ class Copy(NamedTuple):
 class _Waiting(NamedTuple):
     """An entry of debug data that isn't read yet.
 
-    outer: the number of the copy around it; whole: the ranges of its function
+    depth: the number of entries around it; outer: the number of the copy that contains it; -1 if there is none
+    whole: the address ranges of the function that contains it
     """
 
     entry: "DIE"
@@ -103,7 +108,7 @@ class SourceLines:
         return dict(self._read(source_files)[0])
 
     def copies_at(self, address: int) -> list[Copy]:
-        """Return the inlined copies around an instruction and its function, the innermost first."""
+        """Return the inlined copies that contain the instruction at an address, the innermost first, and then its function."""
         return sorted((copy for copy in self._copies if copy.first <= address < copy.end), reverse=True)
 
     @functools.cached_property
@@ -119,7 +124,7 @@ class SourceLines:
         return self._read(copies_in)[0]
 
     def _read(self, read: "Callable[[ELFFile], Iterator[Item]]") -> tuple[list[Item], str]:
-        """Return the items that `read` finds in the debug data, and why it can't be read, in one line, or ""."""
+        """Return the items that `read` yields for the file, and "". If the debug data is damaged, return none, and the reason in one line."""
         if self._path is None:
             return [], ""
         with self._path.open("rb") as file:

@@ -21,12 +21,12 @@ MAPPING = ("$", ".L")  # the start of symbols that assemblers add
 
 @dataclass(frozen=True)
 class Symbols:
-    """The symbols of a file by name. Empty if the file has no symbol table.
+    """The symbols of a file by name. They are empty if the file has no symbol table.
 
-    addresses: the address of each name
-    sizes: the size of each name in bytes, 0 if the file doesn't have it
-    places_of: all addresses of each name, since several source files may define it
-    path: the file; its source lines are read when they are first used
+    addresses: the address of each name; if several symbols have the name, that of the one which `_symbols` ranks highest
+    path: the path of the file, from which source lines are read when they are first used; None without a file
+    sizes: the size of each symbol in bytes; 0 if the file doesn't give a size
+    places_of: all addresses of each name, since several source files may define the same name
     """
 
     addresses: Mapping[str, int] = field(default_factory=dict)
@@ -37,7 +37,7 @@ class Symbols:
 
     @classmethod
     def read(cls, path: pathlib.Path) -> "Symbols":
-        """Return the symbols of a file; none if it isn't a valid ELF file. Raises OSError if it can't be read."""
+        """Return the symbols of a file; no symbols if it isn't a valid ELF file. Raises OSError if the file can't be read."""
         with path.open("rb") as file:
             from elftools.elf.elffile import ELFFile  # not needed by a console without an image
 
@@ -56,9 +56,9 @@ class Symbols:
 
     @classmethod
     def of_labels(cls, labels: Mapping[str, Sequence[str]]) -> "Symbols":
-        """Return the labels of a source as symbols. The last one reaches to the end of its page.
+        """Return the labels of a source as symbols. The symbol with the highest address reaches to the end of its page.
 
-        labels: names by address, in hexadecimal digits
+        labels: the names at each address, by the address in hexadecimal digits
         """
         from ..instructions.accesses import PAGE_BYTES  # not needed for an image; its import reads tables
 
@@ -68,7 +68,10 @@ class Symbols:
         return cls(addresses, None, {}, {}, [(address, end, names[-1]) for address, names in places])
 
     def place(self, address: int) -> str:
-        """Return an address relative to the last symbol at or before it in its section, as `main+0x8`; "" if there is none."""
+        """Return the name of the last symbol at or before an address in the same section, with the distance to it, as `main+0x8`.
+
+        Return "" if there is no such symbol.
+        """
         at = bisect.bisect_right(self._places, address, key=lambda place: place[0]) - 1
         if at < 0 or address >= self._places[at][1]:
             return ""
@@ -76,7 +79,10 @@ class Symbols:
         return name if address == start else f"{name}+{address - start:#x}"
 
     def room(self, name: str) -> int:
-        """Return the number of bytes of a symbol: its size in the file, or else up to the next symbol or its section's end."""
+        """Return the number of bytes of a symbol: its size in the file, or else the distance to the next symbol or the section's end.
+
+        Return 0 if neither is known. Raises KeyError if there is no symbol with this name.
+        """
         address = self.addresses[name]
         at = bisect.bisect_left(self._places, address, key=lambda place: place[0])
         if self.sizes.get(name) or not self._places[at : at + 1] or self._places[at][0] != address:
@@ -99,7 +105,10 @@ class Symbols:
 
 
 def _symbols(elf: "ELFFile") -> Iterator[tuple[int, int, int, str, int]]:
-    """Yield the address of each symbol, its rank, the end of its section or 0 if it has none, its name and its size."""
+    """Yield each symbol: its address, its rank, the address after its section, its name and its size in bytes.
+
+    Of symbols with the same name, the one with the highest rank is used. The address after the section is 0 if the symbol is in none.
+    """
     allocated = [(at, each) for at, each in enumerate(elf.iter_sections()) if each["sh_flags"] & ALLOCATED]
     bounds = {at: (each["sh_addr"], each["sh_addr"] + each["sh_size"]) for at, each in allocated}
     for section in elf.iter_sections():

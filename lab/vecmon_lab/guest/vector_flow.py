@@ -16,7 +16,7 @@ from .constants import constant_before
 from .jumps import jump_target
 
 _MAX_OWNERS = 16  # functions that share an instruction; more are treated as a jump to any label
-MAX_TYPES = 4  # types that are distinguished at a place
+MAX_TYPES = 4  # the most vector types that are distinguished before an instruction
 JALR, JAL, BRANCH = 0x67, 0x6F, 0x63  # opcodes
 _OP_VSET = 7  # funct3
 _EBREAK = 0x00100073  # the word
@@ -25,10 +25,10 @@ _RETURN_ADDRESS = 1  # x1
 
 @dataclass(frozen=True)
 class VectorState:
-    """The known values of vtype and vl at a place.
+    """The known values of vtype and vl before an instruction.
 
     types: the values that vtype may have, including VILL; None if it may have any
-    vl: None if it is unknown
+    vl: the value of vl; None if it is unknown
     """
 
     types: frozenset[int] | None = None
@@ -61,8 +61,8 @@ def is_supported(vtype: int) -> bool:
 class Code:
     """The instructions of a program.
 
-    words: by address; None for an instruction whose word isn't known, for example because the machine refuses it
-    entries: the addresses where the program may start, with the state there
+    words: the words by address; None for an instruction whose word isn't known, for example because the machine refuses it
+    entries: the addresses where the program may start, with the state before the instruction there
     labels: the addresses to which a jump by register may go
     gaps: addresses before which the source has an instruction that isn't among the words
     is_whole: whether all instructions that may be executed are among the words
@@ -81,12 +81,12 @@ def is_vset(word: int) -> bool:
 
 
 def requested_type(word: int) -> int | None:
-    """Return the type that vsetvli or vsetivli requests; None for vsetvl, which has it in a register."""
+    """Return the vector type that a vsetvli or vsetivli requests; None for vsetvl, which requests a type in a register."""
     return None if word >> 30 == 2 else word >> 20 & (0x3FF if word >> 30 == 3 else 0x7FF)
 
 
 def type_after(word: int, vtype: int | None) -> int | None:
-    """Return the vector type after an instruction; None if its word doesn't show it. vtype: the type before, None if unknown"""
+    """Return the vector type after an instruction; None if it is unknown. vtype: the type before the instruction, None if unknown"""
     if not is_vset(word):
         return vtype
     requested = requested_type(word)
@@ -94,9 +94,9 @@ def type_after(word: int, vtype: int | None) -> int | None:
 
 
 class Flow:
-    """The states of a program.
+    """The states of vtype and vl before the instructions of a program.
 
-    states: the state before each instruction that may be reached, by address
+    states: the state before each instruction that may be reached, by the instruction's address
     """
 
     def __init__(self, code: Code) -> None:
@@ -120,17 +120,20 @@ class Flow:
             self._follow(address)
 
     def after(self, address: int) -> VectorState:
-        """Return the state after a reached instruction, if the instruction after it in memory is the next one."""
+        """Return the state after an instruction that may be reached. It holds if the next word in memory is executed next."""
         state, word = self.states[address], self._code.words.get(address)
         return UNKNOWN if word is None else self._changed(address, word, state)
 
     def requested(self, address: int, word: int) -> int | None:
-        """Return the type that a vset instruction requests; None if it is unknown."""
+        """Return the vector type that a vset instruction requests; None if it is unknown. address, word: of the instruction"""
         requested = requested_type(word)
         return constant_before(self._known, self._joins, address, word >> 20 & 31) if requested is None else requested
 
     def _reach(self, address: int, state: VectorState, owners: frozenset[int]) -> None:
-        """Record that a state may hold before the instruction at an address. owners: the functions that contain it"""
+        """Record that a state may hold before the instruction at an address.
+
+        owners: the functions that contain the instruction, by their first addresses
+        """
         if address not in self._code.words:
             if not self._code.is_whole:
                 self._lose(owners)
@@ -149,7 +152,10 @@ class Flow:
                 self._lose(self._owners[address])
 
     def _lose(self, owners: frozenset[int]) -> None:
-        """Record that a jump may go to any label, or back to any call."""
+        """Record that a jump may go to any label, or to the instruction after any call.
+
+        owners: the functions that contain the jump, by their first addresses
+        """
         was_lost, self._is_lost = self._is_lost, True
         for owner in owners:
             self._return(owner, UNKNOWN)
@@ -162,7 +168,7 @@ class Flow:
             self._return(function, UNKNOWN)
 
     def _return(self, function: int, state: VectorState) -> None:
-        """Record that a function may return with a state."""
+        """Record that a function may return with a state. function: its first address"""
         before = self._returned.get(function)
         self._returned[function] = state if before is None else before.joined(state)
         if self._returned[function] != before:
@@ -182,7 +188,7 @@ class Flow:
             self._reach(address, self._returned[function], self._owners[address - 4])
 
     def _follow(self, address: int) -> None:
-        """Record the instructions that may follow the one at an address, and their state."""
+        """Record the states before the instructions that may be executed after the instruction at an address."""
         state, owners, word = self.states[address], self._owners[address], self._code.words[address]
         if word is None:
             self._reach(address + 4, UNKNOWN, owners)
@@ -206,7 +212,7 @@ class Flow:
         self._reach(target, state, frozenset([target]))
 
     def _follow_register(self, address: int, word: int, state: VectorState, owners: frozenset[int]) -> None:
-        """Follow a jump to an address in a register: a known address, a return, or any other."""
+        """Follow a jump to an address in a register: to a known address, to a return address, or to an unknown address."""
         register, link, offset = word >> 15 & 31, word >> 7 & 31, (word >> 20) - (word >> 31 << 12)
         base = constant_before(self._known, self._joins, address, register)
         if base is not None:
@@ -246,7 +252,10 @@ class Flow:
         return self._with_same_length(state, requested)
 
     def _with_same_length(self, state: VectorState, requested: int) -> VectorState:
-        """Return the state after a vset that keeps vl: vill if VLMAX would differ from that of the types before."""
+        """Return the state after a vset that preserves vl. If it would change VLMAX, the type after it is vill.
+
+        state: the state before the vset; requested: the type that it requests
+        """
         if state.types is None:
             return UNKNOWN
         limit = ControlRegisters(vtype=requested).vlmax
@@ -261,7 +270,12 @@ class Flow:
 
 
 def flow_of_listing(words: Mapping[int, int]) -> Flow:
-    """Return the flow of a listing. It may start, in any state, at the first instruction, and where no other instruction leads."""
+    """Return the flow of the instructions in a listing.
+
+    Execution may start, in any state, at the first listed instruction, and at each instruction to which no listed instruction leads.
+
+    words: the words by address
+    """
     reached = {jump_target(address, word) for address, word in words.items()}
     reached |= {address + 4 for address, word in words.items() if not _leaves(word)}
     starts = [address for address in words if address not in reached] + [*words][:1]

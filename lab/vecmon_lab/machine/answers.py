@@ -25,7 +25,10 @@ _WORDS = {"STOP": _STOP, "V16": "[0-9a-f]{16}", "WORD": "[0-9a-f]{8}", "HEX": "(
 
 
 def _pattern(form: str, role: str = "[1-8*]") -> re.Pattern[str]:
-    """Return the pattern of a line of an answer in this form, after its prefix. role: the pattern of the prefix's character"""
+    """Return the pattern of a line of an answer, with its prefix.
+
+    form: the line after the prefix, in which words such as STOP stand for patterns; role: the pattern of the prefix's character
+    """
     for word, expression in _WORDS.items():
         form = form.replace(word, expression)
     return re.compile(f"{role} (?:{form})")
@@ -91,7 +94,7 @@ class ScalarRegisters:
 
 @dataclass(frozen=True)
 class VectorRegister:
-    """The 32 bytes of a vector register. width: the number of bits of the elements in which the answer shows them"""
+    """The 32 bytes of a vector register. width: the number of bits of an element in the answer, which shows the register by elements"""
 
     number: int
     width: int
@@ -148,7 +151,7 @@ class Listing:
 
 @dataclass(frozen=True)
 class Addresses:
-    """The addresses that `breaks` or `trace` shows. name: this command"""
+    """The addresses that an answer to `breaks` or `trace` shows. name: the command, `breaks` or `trace`"""
 
     name: str
     addresses: Sequence[int]
@@ -156,11 +159,12 @@ class Addresses:
 
 @dataclass(frozen=True)
 class ProgramState:
-    """Where a program is, and for which reason.
+    """The state of a program in an answer.
 
-    kind: how the answer starts, such as `exit` or `state running`
-    number: for `stepped` the number of steps, for `exit` the exit status
-    cause, value: of a fault
+    kind: the start of the answer, such as `exit` or `state running`
+    pc: the program counter
+    number: the number of steps if the kind is `stepped`, the exit status if it is `exit`, and otherwise 0
+    cause, value: the cause and the value of a fault; 0 for other kinds
     """
 
     kind: str
@@ -181,9 +185,9 @@ class ProgramState:
 
 
 class Position(ProgramState):
-    """The position of a program that hasn't stopped by itself.
+    """The position of a program in an answer that isn't a stop of the program by itself.
 
-    kind: `stepped` after that number of steps, `running`, `stopped`, or in an answer to `state`: `state running` or `state stopped`
+    kind: `stepped`, `running` or `stopped`; in an answer to `state`, `state running` or `state stopped`
     """
 
     @property
@@ -205,7 +209,7 @@ class Output:
 
 @dataclass(frozen=True)
 class Granted:
-    """The number of slices that a line granted, and the stops in these slices, each with its user's digit."""
+    """The number of slices that a line granted, and the programs' stops in these slices, each after the digit of the program's user."""
 
     slices: int
     stops: Sequence[tuple[str, Stop]] = ()
@@ -257,7 +261,7 @@ _READERS: dict[str, Callable[..., Answer]] = {
 
 
 def read(answer: Sequence[str]) -> Answer:
-    """Parse a whole answer, a list of lines with their prefixes. Raises ValueError if it has no known form."""
+    """Parse a whole answer. Raises ValueError if it has no known form. answer: its lines, each with its prefix"""
     *before, last = answer
     first, *others = words = last[2:].split(" ")
     if first in _READERS:
@@ -293,7 +297,12 @@ def _vector_register(line: str) -> VectorRegister:
 
 
 def answers_by_user(answer: Sequence[str]) -> list[tuple[str, Answer]]:
-    """Split a whole answer by users: the stops of users whose programs stopped, and then the answer for the sender of the line."""
+    """Return the parts of a whole answer, each after the digit of its user, or `*` for the operator.
+
+    The stops of programs in granted slices come first, and the answer to the sender of the line comes last.
+
+    answer: its lines, each with its prefix
+    """
     parsed = read(answer)
     return [*(parsed.stops if isinstance(parsed, Granted) else ()), (answer[-1][0], parsed)]
 
@@ -329,7 +338,7 @@ def is_stop(line: str) -> bool:
 def is_whole(line: str, answer: Sequence[str]) -> bool:
     """Whether `answer`, one line or more, is the whole answer to `line`.
 
-    Call it after each line that is received. Raises OutOfStep if the last one can't be a part of the answer.
+    Call this after each line that is received. Raises OutOfStep if the last line of `answer` can't be a part of the answer.
     """
     latest, count = answer[-1], _shape(line)[1]
     if latest[2:3] == "E" and latest[:2] == line[:2] and is_refusal(answer):

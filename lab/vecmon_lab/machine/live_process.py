@@ -9,16 +9,16 @@ from .script import Block
 
 
 class LiveProcess:
-    """The process of a session, which is replaced by another one in the same state if it fails.
+    """The process of a session. If it fails, a process in the same state replaces it.
 
-    losses: the reason of each replacement of a process that gave no answer
+    losses: for each process that gave no answer and was replaced, the reason
     """
 
     def __init__(
         self, replayer: Replayer, limit: int, lock: contextlib.AbstractContextManager[object], progress: Progress
     ) -> None:
-        """limit: the number of bytes of lines for which a process has room
-        lock: held by `follow`, which another thread may call; the thread that holds it can take it again
+        """replayer: starts new processes; limit: the number of bytes of lines for which a process has room
+        lock: protects the spare process, since another thread may call `follow`; the thread that holds the lock can take it again
         progress: is called with the percentage of the script that a new process has executed
         """
         self.losses: list[str] = []
@@ -33,7 +33,10 @@ class LiveProcess:
         return self._process.number if self._process else None
 
     def ask(self, lines: Sequence[str]) -> list[list[str]]:
-        """Return the answers to lines, from the process, or from a new one if this one has ended. Raises as `replace` does."""
+        """Return the answer to each line, as a list of lines. If the process has ended or is full, a new one answers.
+
+        Raises as `replace` and `Process.ask` do.
+        """
         if self._process and self._process.fed + sum(map(len, lines)) >= self._limit + self._limit // 10:
             self.close()
         if self._process:
@@ -45,17 +48,17 @@ class LiveProcess:
         return self.replace().ask(lines)
 
     def pipe(self, script: bytes) -> Iterator[Block]:
-        """Execute lines in bulk; yield blocks of lines with their answers."""
+        """Execute lines in bulk, and yield blocks of lines with their answers. script: the lines, each with its newline"""
         return self._replayer.piped(self._process or self.replace(), script, self._tell)
 
     def pipe_set_up(self, lines: bytes) -> Iterator[Block]:
-        """As `pipe`, for lines that set up a new machine. Their progress isn't reported."""
+        """Execute lines that set up a new machine, and yield blocks as `pipe` does. Don't report progress."""
         return self._replayer.piped(self._process or self.replace(), lines)
 
     def replace(self) -> Process:
-        """Return a process that has executed the script with the same answers as before: the spare one, or a new one.
+        """Make the spare process, or else a new one, the session's process, and return it.
 
-        Raises ProgramGone, OutOfStep and ReplayDiffers.
+        It has executed the script with the same answers as the process before. Raises ProgramGone, OutOfStep and ReplayDiffers.
         """
         with self._lock:
             spare, self._spare = self._spare, None
@@ -69,7 +72,7 @@ class LiveProcess:
     def follow(self) -> None:
         """Let a spare process execute the script up to its end, perhaps in another thread.
 
-        Raises as `replace` does; then there is no spare process.
+        Raises as `replace` does. After an error there is no spare process.
         """
         with self._lock:
             if self._spare and self._spare.process.fed > self._limit:
@@ -102,7 +105,10 @@ class LiveProcess:
                 process.kill()
 
     def _use(self, copy: Copy) -> Process:
-        """Make a copy's process the session's, and execute the rest of the script. Raises as `replace` does; then the process is closed."""
+        """Make a copy's process the session's, execute the rest of the script in it, and return it.
+
+        Raises as `replace` does. After an error the process is closed.
+        """
         self._process = copy.process
         try:
             self._replayer.bring_up(copy, self._tell)

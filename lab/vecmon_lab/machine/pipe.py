@@ -48,9 +48,9 @@ class PipedProcess:
         self._readable.register(self._source, select.POLLIN)
 
     def ask(self, lines: Sequence[str]) -> list[list[str]]:
-        """Send lines together; return the answer to each, as a list of lines.
+        """Send lines together, and return the answer to each of them, as a list of lines.
 
-        Raises ProgramGone and OutOfStep; after that the process can't be used.
+        Raises ProgramGone and OutOfStep. After either error, the process can't be used.
         """
         if self._rest() or self._receive(0):
             raise OutOfStep(f"before {lines[0][:60]!r} was sent there came {self._rest()[:60]!r}")
@@ -63,9 +63,9 @@ class PipedProcess:
         return answers
 
     def stream(self, script: bytes) -> Iterator[bytes]:
-        """Send the lines of a script as the process takes them; yield blocks of whole lines of their answers as they come.
+        """Send the lines of a script while the process reads them, and yield blocks of whole lines of output as they arrive.
 
-        Read-only lines mustn't be among them. The form of the answers isn't checked. Raises ProgramGone.
+        The script mustn't have read-only lines. The form of the answers isn't checked. Raises ProgramGone.
         """
         # A read-only line marks the end of the answers: no line of a script has an answer like it.
         left = memoryview(script + b"* list\n")
@@ -92,14 +92,14 @@ class PipedProcess:
         os.set_blocking(self._feed, True)
 
     def _put(self, data: memoryview) -> int:
-        """Write as many bytes as the process takes now; return their number. Raises ProgramGone."""
+        """Write bytes to the process, as many as the pipe takes, and return their number. Raises ProgramGone."""
         try:
             return os.write(self._feed, data)
         except OSError as error:
             raise ProgramGone(self._end()) from error
 
     def _answer(self, line: str) -> list[str]:
-        """Return the lines of the next answer. line: the line that it answers"""
+        """Return the lines of the next answer. Raises ProgramGone and OutOfStep. line: the line that was sent"""
         answer = [self._line()]
         while not is_whole(line, answer):
             answer.append(self._line())
@@ -115,11 +115,11 @@ class PipedProcess:
         return self._lines.popleft()
 
     def _rest(self) -> bytes:
-        """Return the bytes that were received, and aren't read yet."""
+        """Return the bytes that were received, and that no answer has used yet."""
         return "".join(f"{line}\n" for line in self._lines).encode("latin-1") + self._unread
 
     def _receive(self, seconds: float) -> bool:
-        """Wait at most a number of seconds for output, and receive it; return whether there was any. Raises ProgramGone."""
+        """Wait for output, at most a number of seconds, and receive it. Return whether there was any. Raises ProgramGone at the end."""
         if not self._readable.poll(seconds * 1000):
             return False
         data = os.read(self._source, BLOCK_BYTES)

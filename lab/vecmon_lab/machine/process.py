@@ -24,13 +24,13 @@ class Process(Protocol):
     number: int
 
     def ask(self, lines: Sequence[str]) -> list[list[str]]:
-        """Send lines together; return the answer to each, as a list of lines.
+        """Send lines together, and return the answer to each of them, as a list of lines.
 
-        Raises ProgramGone and OutOfStep; after that the process can't be used.
+        Raises ProgramGone and OutOfStep. After either error, the process can't be used.
         """
 
     def stream(self, script: bytes) -> Iterator[bytes]:
-        """Send the lines of a script; yield blocks of whole lines of their answers as they come. Raises ProgramGone."""
+        """Send the lines of a script, and yield blocks of whole lines of output as they arrive. Raises ProgramGone."""
 
     def kill(self) -> None:
         """End the process at once, whatever it does. Another thread may call this."""
@@ -43,18 +43,21 @@ class Starter(Protocol):
     """A program that isn't a file, such as WebAssembly in a page."""
 
     def start(self, arguments: Sequence[str], images: Mapping[str, pathlib.Path]) -> Process:
-        """Start a process. arguments: of the program; images: paths by the names in the arguments. Raises ProgramGone."""
+        """Start a process. Raises ProgramGone.
+
+        arguments: the arguments of the program; images: the path of each image, by the image's name in the arguments
+        """
 
 
 Vecmon = pathlib.Path | Starter
-"""The program: a file, or one that isn't."""
+"""The program vecmon: the path of a file, or a `Starter`, which starts a program that isn't a file."""
 
 
 def start(program: Vecmon, command: Sequence[str], images: Mapping[str, pathlib.Path], patience: float) -> Process:
     """Start a process of a program. Raises ProgramGone.
 
     command: the program's path and its arguments; a `Starter` gets only the arguments
-    images: paths by the names in the arguments
+    images: the path of each image, by the image's name in the arguments
     patience: the seconds without output after which a process of a file counts as ended
     """
     if not isinstance(program, pathlib.Path):

@@ -35,9 +35,10 @@ class NoProgram(LabError):
 def find_program() -> pathlib.Path:
     """Return the path of vecmon.
 
-    It is `$VECMON`, or else the first that exists of: the one in a Python package, crates/vecmon/out, build/unproved, programs, and PATH.
+    It is `$VECMON` if this variable is set. Otherwise it is the first program that exists in the Python package, crates/vecmon/out,
+    build/unproved, programs, or a folder of PATH.
 
-    Raises NoProgram.
+    Raises NoProgram if there is none.
     """
     named = os.environ.get("VECMON")
     found = shutil.which(named) if named else _first_built(BUILT, "vecmon")
@@ -50,9 +51,10 @@ def find_program() -> pathlib.Path:
 def find_recorder() -> pathlib.Path:
     """Return the path of vecmon-record.
 
-    It is `$VECMON_RECORD`, or else the one next to `$VECMON`, or else the first that exists, as in `find_program`.
+    It is `$VECMON_RECORD` if this variable is set, or else the program next to `$VECMON`. If neither variable is set, it is the first
+    program that exists in the places of `find_program`.
 
-    Raises NoProgram.
+    Raises NoProgram if there is none.
     """
     named = os.environ.get("VECMON_RECORD")
     if not named and os.environ.get("VECMON"):
@@ -76,9 +78,11 @@ def _advice(name: str) -> str:
 
 
 def _first_built(built: pathlib.Path, name: str) -> str | None:
-    """Return the path of a program: the first of several places that has it; None if it is nowhere.
+    """Return the path of a program in the first place that has it; None if no place has it.
 
-    The places are the Python package, `built`, the folder of tools/run, that of the sources' release, and PATH.
+    The places are the Python package, `built`, the folder of tools/run, the folder of programs in a release of the sources, and PATH.
+
+    built: the path of the program that the proved build writes; name: the program's name
     """
     places = (PROGRAMS / name, built, _unproved(name), _released(name), name)
     return next((found for found in (shutil.which(str(place)) for place in places) if found), None)
@@ -112,7 +116,7 @@ def _released(name: str) -> pathlib.Path:
 
 
 def check_is_vecmon(program: pathlib.Path) -> None:
-    """Raise NoProgram if a program isn't vecmon: its help begins with another text. Call this after an unexpected answer."""
+    """Raise NoProgram if a program's help shows that it isn't vecmon. Call this after an unexpected answer."""
     import subprocess  # which the synchronous core does without
 
     try:
@@ -145,12 +149,15 @@ def images_of(words: list[str], any_vlen: bool = False) -> dict[str, pathlib.Pat
 
 
 def image_refusal(name: str, code: str) -> str:
-    """Return the message for an image that the machine refuses. name: of the image; code: of its fault, the detail of E09"""
+    """Return the message for an image that the machine refuses. name: the image's name; code: the code of its fault, after E09"""
     return f"the machine refuses {name} ({code}): {dict(read_table('image_faults')).get(code)}"
 
 
 def segments_of(image: bytes) -> Iterator[tuple[int, str, int, bytes]]:
-    """Yield each loaded segment of an image, from its program headers: address, permissions, size, and its bytes in the file."""
+    """Yield each loaded segment of an image: its address, its permissions such as `rx`, its size in memory, and its bytes in the file.
+
+    Raises struct.error if the program headers are cut off.
+    """
     (table,), (size, count) = struct.unpack_from("<Q", image, 32), struct.unpack_from("<HH", image, 54)
     for at in range(table, table + size * count, size):
         kind, flags, offset, address, _, in_file, length = struct.unpack_from("<IIQQQQQ", image, at)

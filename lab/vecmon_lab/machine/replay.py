@@ -12,7 +12,7 @@ from .script import Block, Script, marks
 
 NEW_MACHINE = Users(dict.fromkeys(DIGITS, "-"))
 Progress = Callable[[int], object]
-"""Receives how much of a script a process has executed, in percent."""
+"""A function that is called with the percentage of a script that a process has executed, from 0 to 100."""
 DIFFERS = "a new process answers the script otherwise than the one before"
 
 
@@ -24,7 +24,7 @@ class ReplayDiffers(LabError):
 class Copy:
     """A process that executes a session's script again.
 
-    number, size: the number of lines and of bytes of the script that it has executed
+    number, size: the number of lines, and of their bytes, up to which it has executed the script
     """
 
     process: Process
@@ -33,15 +33,15 @@ class Copy:
 
 
 class Replayer:
-    """Makes processes that have executed a script. has_ended: whether the session has ended"""
+    """Starts processes that execute a session's script again. has_ended: whether the session has ended, which the session sets"""
 
     def __init__(self, script: Script, start: Callable[[], Process], check: Callable[[], object]) -> None:
-        """start: starts a process; check: raises an error if the program mustn't be used"""
+        """script: the session's script; start: starts a process; check: raises an error if the program mustn't be used"""
         self._script, self._start, self._check = script, start, check
         self.has_ended = False
 
     def copy(self) -> Copy:
-        """Return a new process that has executed the lines of the checkpoint in place of the first lines, if there is a checkpoint."""
+        """Return a new process. If the script has a checkpoint, the process has executed its lines in place of the script's first lines."""
         process, (checkpoint, covered) = self._start(), self._script.base
         try:
             if read(process.ask(["* list"])[0]) != NEW_MACHINE:
@@ -54,7 +54,10 @@ class Replayer:
         return Copy(process, checkpoint.number, covered)
 
     def bring_up(self, copy: Copy, tell: Progress = lambda percent: None) -> None:
-        """Execute the rest of the script. An error ends the process. tell: is called with the executed percentage"""
+        """Execute the lines of the script that a copy hasn't executed. Raises ReplayDiffers if an answer differs from the recorded one.
+
+        Also raises as `piped` does. After any error the process is closed. tell: is called with the executed percentage
+        """
         script = bytes(self._script.text[copy.size :])
         try:
             for lines, answers in self.piped(copy.process, script, tell):
@@ -69,7 +72,7 @@ class Replayer:
         copy.size += len(script)
 
     def piped(self, process: Process, script: bytes, tell: Progress = lambda percent: None) -> Iterator[Block]:
-        """Execute lines; yield blocks of lines with their answers as they come.
+        """Execute lines in a process, and yield blocks of lines with their answers as the answers arrive.
 
         script: the lines of a session's script; tell: is called with the executed percentage
 

@@ -11,12 +11,12 @@ from .answers import is_refusal
 from .lines import words_of
 
 Block = tuple[Sequence[str], Sequence[str]]
-"""Lines and their answers, which have newlines between their lines."""
+"""Lines of a script, and the answer to each. An answer with several lines has newlines between them."""
 
 
 @dataclass(frozen=True)
 class Checkpoint:
-    """Lines that replace the first `number` lines of a script: they bring a new machine into the same state."""
+    """Lines that bring a new machine into the state after the first `number` lines of a script, and so replace these lines."""
 
     number: int
     lines: bytes
@@ -24,12 +24,12 @@ class Checkpoint:
 
 @dataclass(frozen=True)
 class ScriptStart:
-    """The first lines of a script, with the data that a session needs if a new process doesn't execute them.
+    """The first lines of a script, with the data that a session needs if a new process doesn't execute these lines.
 
-    number, size: the number of lines, and of their bytes
+    number, size: the number of the lines, and of their bytes
     sent, answers: the digests of the lines and of their answers
-    policy: the policy for agnostic elements of each user who is present after these lines
-    lines: makes lines that replace the first lines; returns None if no lines bring a machine into the same state
+    policy: the policy for agnostic elements of each user who is present after the lines, by the user's number
+    lines: returns other lines that bring a new machine into the state after the first lines; None if no lines can do that
     """
 
     number: int
@@ -47,9 +47,9 @@ class Script:
     sent, answers: the digests of the lines and of the answers
     marks: the CRC-32 of each answer, with which the answers of a replay are compared
     base: the last checkpoint, and the number of bytes of the script that it replaces
-    policy: the policy for agnostic elements of each present user
-    total: the seconds that all lines have taken
-    spent: the seconds that the lines since the checkpoint have taken, so that a replay takes about as long
+    policy: the policy for agnostic elements of each present user, by the user's number
+    total: the seconds in which all lines were executed
+    spent: the seconds in which the lines since the checkpoint were executed; a replay takes about as long
     """
 
     def __init__(self) -> None:
@@ -61,9 +61,10 @@ class Script:
         self.sent, self.answers = hashlib.sha256(), hashlib.sha256()
 
     def shorten(self, checkpoint: Checkpoint, spent: float) -> None:
-        """Replace the first part of the script by a checkpoint, so that a new process executes the checkpoint instead.
+        """Set the checkpoint that a new process executes in place of the first lines of the script.
 
-        spent: the seconds that this part took
+        checkpoint: its `number` counts the lines of `Session.short_script`, which begins with the previous checkpoint's lines
+        spent: the seconds in which the replaced lines were executed
         """
         before, covered = self.base
         removed = max(0, checkpoint.number - before.lines.count(b"\n"))
@@ -73,15 +74,15 @@ class Script:
         self.spent -= spent
 
     def start(self, lines: Callable[[], bytes | None]) -> ScriptStart:
-        """Return the whole script as the start of a longer one. lines: makes the lines that replace it, as in `ScriptStart`"""
+        """Return the whole script as the start of a longer one. lines: as in `ScriptStart`"""
         return ScriptStart(
             len(self.marks), len(self.text), self.sent.copy(), self.answers.copy(), dict(self.policy), lines
         )
 
     def begin(self, start: ScriptStart, lines: bytes, whole: "Script") -> None:
-        """Start with the first lines of another script.
+        """Begin this script, which is empty, with the first lines of another script.
 
-        start: these lines; lines: replace them in a new process; whole: the other script
+        start: the first lines; lines: the lines that a new process executes instead; whole: the other script
         """
         self.text, self.marks = whole.text[: start.size], whole.marks[: start.number]
         self.sent, self.answers = start.sent.copy(), start.answers.copy()
@@ -121,5 +122,5 @@ class Script:
 
 
 def marks(answers: Sequence[str]) -> Iterator[int]:
-    """Return the CRC-32 of each answer."""
+    """Return an iterator over the CRC-32 of each answer."""
     return map(crc32, map(str.encode, answers))

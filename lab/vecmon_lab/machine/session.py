@@ -56,14 +56,14 @@ class Session(contextlib.AbstractContextManager["Session"]):
     The process is replaced if it ends, hangs, or has no room for more lines. The new one executes the script again, or a
     checkpoint's lines and the lines since then.
 
-    quantum: the ticks of a slice
-    images: paths by name
-    command: the program and its arguments
+    quantum: the number of ticks in a slice
+    images: the path of each image, by its name
+    command: the path of the program, and its arguments
     recorded: the script
-    policy: the policy of each present user for agnostic elements, `keep` or `ones`, which no command shows
-    progress: is called while a new process executes the script, with the executed percentage, from 0 to 100
+    policy: the policy of each present user for agnostic elements, `keep` or `ones`, by the user's number; no command shows it
+    progress: is called with the percentage of the script, from 0 to 100, while a new process executes it
     starts: first parts of the script, the shortest first, that `rewound` doesn't need to execute
-    on_lines: is called with the number of bytes of the script before some recorded lines, these lines, and their answers
+    on_lines: is called after lines were recorded, with the size of the script before them, the lines, and their answers
     """
 
     def __init__(
@@ -77,14 +77,14 @@ class Session(contextlib.AbstractContextManager["Session"]):
         check: Callable[[], object] = lambda: None,
         lock: Callable[[], contextlib.AbstractContextManager[object]] = contextlib.nullcontext,
     ) -> None:
-        """Start the program. images: paths by name
+        """Start the program. Raises as `do` does.
 
+        program: the path of vecmon, or a `Starter`; images: the path of each image, by its name
+        quantum: the number of ticks in a slice; None for the program's default
         patience: the seconds without output after which a process counts as hung
         script_bytes: the largest size of the script
         check: is called after a process has started; raises an error if the program mustn't be used
-        lock: makes a lock that its holder can take again; needed if another thread calls `follow`
-
-        Raises as `do` does.
+        lock: returns a new lock that its holder can take again; needed if another thread calls `follow`
         """
         self.quantum = 100 if quantum is None else quantum
         options = [] if quantum is None else ["--quantum", str(quantum)]
@@ -144,19 +144,22 @@ class Session(contextlib.AbstractContextManager["Session"]):
 
     @property
     def losses(self) -> list[str]:
-        """The reason of each replacement of a process that gave no answer."""
+        """The reason for each replacement of a process that gave no answer."""
         return self._live.losses
 
     def do(self, line: str) -> list[str]:
         """Execute a line, and record it unless it is read-only. Return the lines of its answer.
 
-        Raises BadLine and ScriptFull for a line that isn't sent, and ProgramGone, OutOfStep and ReplayDiffers if there is no answer. After
-        an error the line isn't recorded, and the session is unchanged.
+        Raises BadLine and ScriptFull for a line that isn't sent. Raises ProgramGone, OutOfStep and ReplayDiffers if there is no answer.
+        After an error the line isn't recorded, and the session is unchanged.
         """
         return self.do_all([line])[0]
 
     def do_all(self, lines: Sequence[str]) -> list[list[str]]:
-        """As `do`, for a few dozen lines that are sent together: either all of them are executed, or none."""
+        """Execute at most TOGETHER lines that are sent at once, and return the answer to each, as `do` does. Raises as `do` does.
+
+        Either all of the lines are executed, or none.
+        """
         for line in lines:
             check_line(line)
         self.check_room(lines)
@@ -208,7 +211,7 @@ class Session(contextlib.AbstractContextManager["Session"]):
         self._live.follow()
 
     def renewed(self) -> "Session":
-        """Return a session on an equal machine whose script is `short_script`. Raises as a replay does."""
+        """Return a new session on an equal machine, whose script is `short_script`. Raises ReplayDiffers, and as `rewound` does."""
         recorded = self.recorded
         replacement, since = self.rewound(self.short_script), recorded.marks[recorded.base[0].number :]
         if replacement.recorded.marks[replacement.lines - len(since) :] != since:
@@ -218,9 +221,11 @@ class Session(contextlib.AbstractContextManager["Session"]):
         return replacement
 
     def rewound(self, script: bytes, check: Callable[[], object] = lambda: None) -> "Session":
-        """Return a session with the same images that has executed `script`. Raises as `do_script` does.
+        """Return a new session with the same images that has executed `script`. Raises as `do_script` does.
 
-        Lines of the longest of `starts` that both scripts have in common aren't executed. check: is called repeatedly meanwhile
+        If `script` begins with one of `starts`, its lines aren't executed: other lines set up the machine's state after them.
+
+        check: is called repeatedly while the script is executed. An error that it raises closes the new session
         """
         replacement = self._opening()
         try:
@@ -233,9 +238,9 @@ class Session(contextlib.AbstractContextManager["Session"]):
         return replacement
 
     def _skip_start(self, script: bytes, starts: Sequence[ScriptStart], other: Script) -> None:
-        """Set up the machine of the longest of `starts` that `script` has in common with another script, if lines can do that.
+        """Bring the machine into the state after the longest of `starts` with which `script` begins, if there are lines that do so.
 
-        other: the other script, to which the starts belong
+        Add the lines of this start to the recorded script. other: the script to which the starts belong
         """
         for number, first in reversed([*enumerate(starts, 1)]):
             if first.size > len(script) or script[: first.size] != other.text[: first.size]:
@@ -248,7 +253,10 @@ class Session(contextlib.AbstractContextManager["Session"]):
                 return
 
     def looks(self, lines: Sequence[str]) -> list[str]:
-        """Return the answers, of one line each, to dozens of a user's read-only lines. As `do_all`, but the lines aren't checked."""
+        """Return the answers to at most TOGETHER read-only lines whose answers have one line each. The lines aren't checked.
+
+        Raises as `do` does if there are no answers.
+        """
         return [answer for (answer,) in self._ask(lines)]
 
     def look(self, line: str) -> list[str]:
@@ -267,7 +275,7 @@ class Session(contextlib.AbstractContextManager["Session"]):
         self._live.end()
 
     def _ask(self, lines: Sequence[str]) -> list[list[str]]:
-        """Send lines, record those that aren't read-only, and return the answers. After an error or interrupt, the process is ended."""
+        """Send lines, record those that aren't read-only, and return the answers. An error or an interrupt ends the process."""
         started = time.monotonic()
         try:
             answers = self._live.ask(lines)

@@ -14,7 +14,7 @@ STACK_POINTER = STACK_END - 64
 """x2 at the start, as `load` leaves it."""
 
 RETURN = STACK_END
-"""Where a program returns to, as x1 has it: an ebreak in a page of its own."""
+"""The address to which a program returns, the value of x1 at the start. An ebreak is there, in a page of its own."""
 
 EBREAK = bytes.fromhex("73001000")
 GLOBAL_POINTER = "__global_pointer$"
@@ -26,10 +26,13 @@ START = (*STACK, *RETURN_PAGE)
 """The lines of every start, without the user's digit."""
 
 START_PAGES = STACK_BYTES // _PAGE_BYTES + 1
-"""The pages that the start takes of a user's 256."""
+"""The number of pages that the start state needs. A user has 256 pages."""
 
 
 def start_lines(labels: Mapping[str, int]) -> list[str]:
-    """Return the lines that set up this state, to follow the lines that load the program. labels: the addresses of the program's labels"""
+    """Return the lines that set up the start state, without the user's digit. Send them after the lines that load the program.
+
+    labels: the addresses of the program's labels, by name
+    """
     pointer = [f"set x3 {labels[GLOBAL_POINTER]:x}"] if GLOBAL_POINTER in labels else []
     return [*START, *pointer]

@@ -71,10 +71,9 @@ def report_target(image: pathlib.Path, any_vlen: bool = False, name: object = No
     """Print warnings about an image's instruction set on standard error.
 
     any_vlen: whether to accept an image for longer vector registers
-    name: the image's name in messages, by default its path
+    name: the image's name in messages; by default its path
 
-    Raises LabError if the image is for longer vector registers, or its e_flags are for another machine. Raises OSError if it can't
-    be read.
+    Raises LabError as `target_warnings` and `check_flags` do, and OSError if the image can't be read.
     """
     with mistakes_in(name or image):
         check_flags(image)
@@ -83,10 +82,12 @@ def report_target(image: pathlib.Path, any_vlen: bool = False, name: object = No
 
 
 def target_warnings(image: pathlib.Path, any_vlen: bool = False, override: str = "") -> list[str]:
-    """Return a clause for each feature that an image's instruction set has and the machine lacks; none for a file without the section.
+    """Return warnings, as clauses, about features that an image's instruction set has and the machine lacks.
+
+    There are none for a file without the section .riscv.attributes.
 
     any_vlen: whether to accept an image for longer vector registers
-    override: the option with which the user can accept it, for the message; "" if there is none
+    override: the end of the error message, which names the option that sets any_vlen; "" if there is no such option
 
     Raises LabError if the image is for longer vector registers, unless any_vlen is set. Raises OSError if it can't be read.
     """
@@ -185,7 +186,7 @@ def _subsections(content: bytes) -> Iterator[tuple[bytes, bytes]]:
 
 
 def _archs(value: bytes) -> Iterator[str]:
-    """Yield the arch strings in the attributes of the whole file. Raises ValueError."""
+    """Yield the arch strings in the attributes of the whole file. Raises ValueError if they are damaged. value: of a subsection"""
     at = 0
     while at < len(value):
         scope, length = value[at], int.from_bytes(value[at + 1 : at + 5], "little")
@@ -197,7 +198,7 @@ def _archs(value: bytes) -> Iterator[str]:
 
 
 def _values_of(wanted: int, attributes: bytes) -> Iterator[str]:
-    """Yield the texts of the tag `wanted`, which is odd. Raises ValueError.
+    """Yield the texts of a tag among attributes. Raises ValueError if they are damaged. wanted: the tag, an odd number
 
     The value of an even tag is a number (ULEB128). The value of an odd tag is a text that ends with a zero byte.
     """

@@ -39,7 +39,10 @@ def sample(row: Row) -> VectorInstruction | None:
 
 @functools.cache
 def examples() -> dict[str, tuple[str, str, str]]:
-    """Return the example of each family of vector instructions: its text, the values that it reads and writes before it runs, and the same values after it."""
+    """Return the examples of the families of vector instructions, by the family's name.
+
+    An example has the instruction's text, the values before it of what it reads and writes, and these values after it.
+    """
     return {name: (text, before, after) for name, text, before, after in read_table("instruction_examples")}
 
 

@@ -22,16 +22,18 @@ from ..meanings.instruction import (
 
 
 class ShownTerm(TypedDict):
-    """A number in a formula or an equation, and its name; without what it doesn't have.
+    """A number in a formula or an equation, and its name. Keys that don't apply are missing.
 
-    value: in decimal digits, of a scalar register or a number with a name
-    name: as `sew`; not of registers, and of the number of the element
-    scalar: the number of a scalar register
-    register: the first vector register of the group that has the element; width: in bits, 1 for a bit of a mask
-    sign: how the number is taken: signed or unsigned; without it as the reader's form of numbers says
-    function: around its name, as `signed`
-    index: of the element; where `by` is `element`, the distance from the element of the result; 0 is left out
-    by: `element`, or `pair`: the source in the pair of the result's element; without it all elements take the same one
+    value: the number in decimal digits, for a scalar register or a number with a name
+    name: the name, such as `sew`; missing for registers, and for the index of the element
+    scalar: the number of the scalar register
+    register: the number of the first vector register of the group that has the element
+    width: the width of the number in bits, 1 for a bit of a mask
+    sign: whether the bits are a signed or an unsigned number; if it is missing, the reader's form of numbers decides
+    function: the function around the name, such as `signed`
+    index: the index of the element; if `by` is `element`, the distance from the index of the result's element. Missing if it is 0
+    by: `element` if each element of the result uses another element, at the distance `index`; `pair` if it uses the source in its pair;
+        missing if all elements of the result use the same number
     """
 
     value: NotRequired[str]
@@ -53,13 +55,16 @@ class ShownCondition(TypedDict):
 
 
 class ShownEquation(TypedDict):
-    """The calculation of elements of one form.
+    """The calculation of elements whose calculations have the same form.
 
-    elements: runs of them, each the first and the number of elements
-    parts: the right side
-    sign: of the results, which are the bits of the elements; without it as the reader's form of numbers says
-    others: exact results that are other numbers, by element: signed terms as the reader wants, and unsigned
-    target: a scalar register in place of elements
+    elements: runs of the elements, each as the index of its first element and the number of elements
+    parts: the right side of the equation, for the first of the elements
+    causes: the conditions that selected this equation
+    sign: whether the elements' bits, which are the results, are signed or unsigned numbers; if it is missing, the reader's form of
+        numbers decides
+    others: the exact results of elements whose bits represent another number, by the element's index: with terms of undefined sign
+        as signed numbers, and as unsigned numbers
+    target: the scalar register that is written, if the result isn't elements
     """
 
     elements: Sequence[Sequence[int]]
@@ -83,8 +88,9 @@ class ShownGroup(TypedDict):
 class ShownAccess(TypedDict):
     """A memory access: `Access` in meanings/instruction.py.
 
-    start, step: the address of element 0 in hexadecimal digits, and the bytes from one element to the next, or from a byte of a mask
-    addresses: in place of them, of each element, in hexadecimal digits
+    store: whether it is a store; bytes: the distance from one field of a segment to the next, in bytes
+    start, step: the address of element 0 in hexadecimal digits, and the number of bytes from each element, or byte of a mask, to the next
+    addresses: the address of each element in hexadecimal digits, in place of `start` and `step` if the distances differ
     """
 
     base: int
@@ -97,14 +103,18 @@ class ShownAccess(TypedDict):
 
 
 class OutcomeRun(TypedDict):
-    """How elements that follow one another took part, and their number."""
+    """The outcome of consecutive elements, and the number of these elements."""
 
     outcome: Outcome
     count: int
 
 
 class PairRun(TypedDict):
-    """Pairs of an element of the source and one of the result; each is `step` elements of the result further than the one before."""
+    """Pairs of an element of the source and an element of the result, whose source elements are consecutive.
+
+    source, result: the indices of the elements in the first pair; count: the number of pairs
+    step: the distance from the result's element in one pair to that in the next: 1, or 0 if it is the same element
+    """
 
     source: int
     result: int
@@ -115,10 +125,12 @@ class PairRun(TypedDict):
 class ShownExecuted(TypedDict):
     """The vector instruction that was executed last, or that faulted: `ExecutedInstruction` in meanings/instruction.py.
 
-    does: its meaning in a sentence, with names in backquotes; the terms are its scalar registers
-    results: without it, as the outcomes
-    known, old: whether the registers of its sources, and of its destination, are known as they were before it
-    follows: whether the state before is the one right before it
+    does: a sentence about the instruction's effect, with names in backquotes; the terms are its scalar registers
+    results: the outcomes of the destination's elements; missing if they are the same as `outcomes`
+    shortened: true if the instruction reduced vl because an element can't be read; otherwise missing
+    known: whether the values of the source registers before the instruction are known
+    old: whether the values of the destination's registers before the instruction are known
+    follows: whether the state right before the instruction was read, so that all registers before it are known
     """
 
     does: Sequence[str | ShownTerm]
@@ -150,12 +162,12 @@ def shown_executed(
     end: End,
     known: tuple[bool, bool, bool],
 ) -> ShownExecuted | None:
-    """Return the data of an executed instruction word; None if it has no vector operands.
+    """Return the data of an executed instruction word; None if the word has no vector operands.
 
-    before: the registers before it, or if these are unknown the ones after it
-    after, v: the control registers and the vector registers' bytes after it
+    before: the registers before the instruction; if they are unknown, the registers after it
+    after, v: the control registers and the bytes of all vector registers after the instruction
     end: how the instruction ended
-    known: whether the registers of its sources are known, those of its destination, and all registers before it
+    known: whether the values before the instruction are known of its source registers, of its destination, and of all registers
     """
     state = Before(0, word, before.x, before.control, bytes(before.v), False)
     data = executed_instruction(state, after, v, end, known[0])
@@ -192,7 +204,7 @@ def _shown(data: ExecutedInstruction, known: bool, old: bool, follows: bool) -> 
 
 
 def _reads_destination(data: ExecutedInstruction, equation: Equation) -> bool:
-    """Whether an equation has an element of the destination on its right side."""
+    """Return whether an equation has an element of the destination on its right side."""
     first = data.groups[0]
     parts = equation.calculation.parts
     return first.role == "destination" and any(
@@ -228,7 +240,7 @@ def _access(access: Access) -> ShownAccess:
 
 @functools.lru_cache(maxsize=4096)
 def _runs(outcomes: Sequence[Outcome]) -> Sequence[OutcomeRun]:
-    """Return outcomes as runs of equal ones."""
+    """Return outcomes as runs of equal outcomes."""
     return [{"outcome": outcome, "count": len([*run])} for outcome, run in itertools.groupby(outcomes)]
 
 

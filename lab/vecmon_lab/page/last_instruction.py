@@ -19,11 +19,11 @@ _OP_VSET = 7  # funct3
 
 
 class ReadRegisters(TypedDict):
-    """Registers as they were before an instruction, in hexadecimal digits. Those that aren't known are left out.
+    """The values of registers before an instruction, in hexadecimal digits. Registers whose values are unknown are left out.
 
-    x: by number, the scalar registers that it read, except x0
-    v: by number, the vector registers of its operands, the destination's too
-    v0, vl, vtype, vstart: whatever the instruction is
+    x: the scalar registers that the instruction read, except x0, by number
+    v: the vector registers of all its operands, including the destination, by number
+    v0, vl, vtype, vstart: the values of these registers, even if the instruction doesn't read them
     """
 
     x: dict[str, str]
@@ -35,7 +35,10 @@ class ReadRegisters(TypedDict):
 
 
 class Access(TypedDict):
-    """Bytes of memory that an instruction read or wrote: the address in hexadecimal digits, and the number of bytes."""
+    """Consecutive bytes of memory that an instruction read or wrote.
+
+    address: the address of the first byte, in hexadecimal digits; length: the number of bytes
+    """
 
     address: str
     length: int
@@ -43,11 +46,11 @@ class Access(TypedDict):
 
 
 Digits = Mapping[str, str]
-"""Registers by number, in hexadecimal digits; of a vector register two for each byte."""
+"""The values of registers in hexadecimal digits, by the register's number. A vector register has two digits for each byte."""
 
 
 def read_registers(word: int, x: Digits, v: Digits, control: ControlRegisters) -> ReadRegisters:
-    """Return the registers that an instruction read. x, v, control: all registers before it"""
+    """Return the registers that an instruction read. x, v, control: all registers before the instruction"""
     return {
         "x": _some(x, _scalars_read(word, _call(word, x))),
         "v": _some(v, _of_operands(word, control.vtype)),
@@ -59,7 +62,7 @@ def read_registers(word: int, x: Digits, v: Digits, control: ControlRegisters) -
 
 
 def registers_kept(word: int, x: Digits, v: Digits, control: ControlRegisters) -> ReadRegisters:
-    """Return the registers that an instruction read and can't have changed. x, v, control: all registers after it"""
+    """Return the registers that an instruction read and can't have changed. x, v, control: all registers after the instruction"""
     is_vset = word & 0x7F == OP_V and word >> 12 & 7 == _OP_VSET
     written = _of_destination(word, control.vtype)
     scalars = [number for number in _scalars_read(word, _call(word, x)) if number != f"{scalar_written(word)}"]
@@ -77,15 +80,15 @@ def registers_kept(word: int, x: Digits, v: Digits, control: ControlRegisters) -
 
 
 def may_access(word: int) -> bool:
-    """Whether an instruction is a load or store."""
+    """Return whether an instruction is a load or store."""
     return word & 0x7F in (LOAD, STORE, LOAD_FP, STORE_FP)
 
 
 def accesses(word: int, before: Registers, after: ControlRegisters, is_faulting: bool) -> list[Access]:
     """Return the memory that an instruction read or wrote, in the order of its addresses. Adjacent bytes are one access.
 
-    before, after: the registers before it, and the control registers after it
-    is_faulting: whether it faulted at the element vstart; then only earlier elements count
+    before, after: the registers before the instruction, and the control registers after it
+    is_faulting: whether the instruction faulted. Then only the elements before vstart are included
     """
     end = 1 << 64
     if is_faulting:
@@ -99,7 +102,10 @@ def accesses(word: int, before: Registers, after: ControlRegisters, is_faulting:
 
 
 def scalar_accesses(word: int, after: Registers) -> list[Access] | None:
-    """Return the memory that a scalar instruction accessed, from the registers after it; None if they don't show its address."""
+    """Return the memory that a scalar instruction accessed; None if the registers after the instruction don't show the address.
+
+    after: the registers after the instruction
+    """
     opcode = word & 0x7F
     if opcode in (LOAD_FP, STORE_FP) or opcode == LOAD and scalar_written(word) == word >> 15 & 31 != 0:
         return None
@@ -113,7 +119,10 @@ def _call(word: int, x: Digits) -> int:
 
 @functools.lru_cache(maxsize=4096)
 def _scalars_read(word: int, call: int) -> Sequence[str]:
-    """Return the numbers of the scalar registers that an instruction reads, also the one that a store stores; x0 is left out."""
+    """Return the numbers of the scalar registers that an instruction reads, without x0. The register that a store stores is included.
+
+    call: the result of `_call`
+    """
     stored = [word >> 20 & 31] if word & 0x7F == STORE else []
     return [f"{number}" for number in sorted({*scalars_read(word, call), *stored} - {0})]
 

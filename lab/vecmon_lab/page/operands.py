@@ -1,4 +1,4 @@
-"""The vector register operands of an instruction for pages, which are the same for all vector types."""
+"""The vector register operands of an instruction for pages: the properties that are the same for all vector types."""
 
 import functools
 from collections.abc import Sequence
@@ -12,9 +12,9 @@ class ShownOperand(TypedDict):
     """A vector register operand of an instruction.
 
     register: the number of the first register
-    bits: whether it is a mask, with a bit for each element
-    written: whether it is the result
-    masked: whether elements whose bit in v0 is 0 are masked off, and v0 still has the mask
+    bits: whether the operand is a mask, with a bit for each element
+    written: whether the operand is the destination
+    masked: whether elements of the operand are masked off if their bit in v0 is 0, and v0 still has the mask after the instruction
     """
 
     register: int

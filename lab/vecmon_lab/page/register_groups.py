@@ -24,7 +24,10 @@ class ShownRegisterGroup(TypedDict):
 
 
 def element_width(groups: Mapping[str, ShownRegisterGroup], number: int) -> int | None:
-    """Return the width of a register's elements in bits; None if it is in none of the groups."""
+    """Return the width in bits of a vector register's elements; None if the register is in none of the groups.
+
+    groups: the groups by their first registers; number: the number of the register
+    """
     covering = (group["width"] for first, group in groups.items() if 0 <= number - int(first) < group["size"])
     return next(covering, None)
 
@@ -33,8 +36,9 @@ class _Group(NamedTuple):
     """A register group, as an instruction uses it.
 
     first, size: the number of the first register, and the number of registers
-    width: of its elements in bits, 1 for a mask
-    is_whole: whether it has this size under all vector types
+    width: the width of an element in bits, 1 for a mask
+    is_written: whether the instruction writes the group; otherwise it reads it
+    is_whole: whether the group has this size under all vector types
     """
 
     first: int
@@ -63,11 +67,11 @@ class RegisterGroups:
         self._types = dict[int, int]()  # vector types by address, as far as the listing shows them
 
     def follow(self, code: Mapping[str, str], trace: Sequence[int], stepped: int, vtype: int) -> None:
-        """Take up the instructions that were executed since the last call.
+        """Update the groups with the instructions that were executed since the last call.
 
-        code: the listing
-        trace: the addresses of the last instructions
-        stepped: the number of instructions that were stepped; 0 if the program ran
+        code: the listing: for each address in hexadecimal digits, the word's digits and its text
+        trace: the addresses of the last executed instructions, as the machine's trace shows them
+        stepped: the number of instructions that were stepped since the last call; 0 if the program ran
         vtype: the vector type after these instructions
         """
         if code is not self._code:
@@ -84,7 +88,11 @@ class RegisterGroups:
         self._trace, self._vtype = trace, vtype
 
     def _execute(self, addresses: Iterable[int], before: int | None, after: int) -> None:
-        """Take up executed instructions. before, after: the vector types before them (None if unknown) and after them"""
+        """Update the groups with executed instructions.
+
+        addresses: the addresses of the instructions, in the order of their execution
+        before, after: the vector types before the first and after the last of them; `before` is None if it is unknown
+        """
         vtype = before
         for address in addresses:
             word = self._words.get(address, 0)
@@ -92,12 +100,13 @@ class RegisterGroups:
             vtype = type_after(word, vtype)
 
     def shown(self, pc: int) -> dict[str, ShownRegisterGroup]:
-        """Return the groups by their first registers.
+        """Return the groups to show, by the numbers of their first registers.
+
+        If no executed instruction is known to use a register, the register is in the group of the last listed instruction that uses it
+        before the program counter. If there is none, it is in the group of the first listed instruction that uses it from the program
+        counter on, under the present vector type.
 
         pc: the program counter
-
-        If no executed instruction is known to use a register, it is shown in the group of the last listed instruction before the program
-        counter that uses it, or else of the first one after it under the present vector type.
         """
         before, after = dict[int, _Group](), dict[int, _Group]()
         present = E32 if self._vtype is None or self._vtype >> 63 else self._vtype
@@ -133,7 +142,10 @@ def _groups_of(word: int, vtype: int) -> Sequence[_Group]:
 
 
 def _take(groups: dict[int, _Group], new: Iterable[_Group]) -> None:
-    """Replace the group of each register that an instruction uses. A group that is only read doesn't replace one that was written."""
+    """Set the group of each register that an instruction uses. A group that is only read doesn't replace one that was written.
+
+    groups: the groups by register, which are changed; new: the groups that the instruction uses
+    """
     for group in new:
         for number in range(group.first, group.first + group.size):
             old = groups.get(number)
@@ -144,7 +156,10 @@ def _take(groups: dict[int, _Group], new: Iterable[_Group]) -> None:
 
 
 def _joined(groups: Mapping[int, _Group]) -> dict[str, ShownRegisterGroup]:
-    """Return the groups by their first registers. If a group was replaced in part, its remaining registers are groups of their own."""
+    """Return groups by their first registers. If another group has replaced a part of a group, the remaining registers are a group.
+
+    groups: the group of each register, by the register's number
+    """
     numbers = sorted(groups)
     # A group's registers count as equal whether they were read or written.
     places = {number: groups[number][:3] for number in numbers}

@@ -44,7 +44,7 @@ from .variables import ShownVariable
 
 
 class ShownData(TypedDict):
-    """Numbers of a type, one behind another, or a text; count: of numbers, or bytes of a text"""
+    """Consecutive numbers of one type, or a text. count: how many numbers there are, or the number of bytes of the text"""
 
     type: DataType
     count: int
@@ -53,12 +53,16 @@ class ShownData(TypedDict):
 class SourceNames(TypedDict):
     """The names of the source that was assembled last.
 
-    labels, lines: names, and lines with their comments, by address
-    data: numbers and texts of an assembler source's directives, by address
-    line_numbers: of an assembler source: the line number of each instruction, by address
-    aliases: of an assembler source: its pseudo-instructions for vector instructions, by address
-    stops: the addresses of a line's breakpoints by line number
-    starts, variables: of a compiled source (`compilers/compiled.py`): the line number, or 0, by start address; and those of the debug data
+    Addresses are in hexadecimal digits.
+
+    labels: the labels at each address that has some
+    lines: the text of each source line with its comment, by the address of the line's first instruction
+    data: the numbers and texts of an assembler source's directives, by the address of the first byte
+    line_numbers: for an assembler source, the line number of each instruction, by the instruction's address
+    aliases: for an assembler source, the pseudo-instructions that expand to vector instructions, by their addresses
+    stops: the addresses of each line's breakpoints, by the line's number
+    starts: for a compiled source (`compilers/compiled.py`), the line number of code, or 0 without a line, by the code's first address
+    variables: for a compiled source, the variables of the debug data
     """
 
     labels: dict[str, list[str]]
@@ -72,27 +76,28 @@ class SourceNames(TypedDict):
 
 
 class State(TypedDict):
-    """A user's state; addresses and values are hexadecimal digits without leading zeros, and bytes two digits each.
+    """A user's state. Addresses and values are in hexadecimal digits without leading zeros, and bytes have two digits each.
 
-    run: without a machine there is nothing else
-    pc, and all up to `memory`: where the program was stopped at least once; a program that runs has them as they were before, but pc
-    x: 32 values by number; v: 32 times 32 bytes by number; policy: `keep` or `ones`
-    code, operands: the program's words with their texts, and their vector operands, by address
-    groups: the vector register groups in use, by their first registers: as the instruction took them that wrote them last
-    targets: the address to which a branch or `jal` of the code may go, by its own
-    memory: rows of 16 bytes by address
-    instruction: the address of the instruction that the last lines executed last, or that faulted
-    executed: that instruction's elements, if it has vector operands
-    read, accessed: in a class, registers before that instruction, and the memory that it accessed, as far as they are known
-    faulted, illegal: whether that instruction faulted, and whether it is illegal
-    stop: why the program stopped in what was just done, in words
-    calls: calls that the machine doesn't support, in words by the address of the ECALL: those that the code shows, and those that the
-        program reached; without one there is no such key
+    run: whether the program runs. If the user is absent, there are no other keys
+    pc, and all keys up to `memory`: present once the program has been stopped. While it runs, only pc is updated
+    x: the values of the 32 scalar registers, by number; v: the 32 bytes of each vector register, by number
+    policy: the policy for agnostic elements, `keep` or `ones`
+    code: the words of the program with their texts, by address; operands: the vector operands of each word, by address
+    groups: the vector register groups to show, by their first registers. A register is in the group of the last instruction that wrote it
+    targets: the address to which a branch or `jal` may go, by the instruction's address
+    memory: rows of 16 bytes, by the address of the first byte
+    instruction: the address of the last instruction that was executed in the last lines, or that faulted
+    executed: the elements of this instruction, if it has vector operands
+    read, accessed: in a class, the registers before this instruction, and the memory that it accessed, as far as they are known
+    faulted, illegal: whether this instruction faulted, and whether it is illegal
+    stop: sentences that explain why the program stopped in the last lines
+    calls: a sentence about each call that the machine doesn't support, by the address of the ECALL. The calls are those that the code
+        shows, and those that the program has reached. If there are none, the key is missing
     output: the bytes that answers to `out` have shown
-    outputs: in a class in place of it, the last 64 KB of them, in blocks by number
-    began, image: in a class, how often the user's machine began anew, and whether it began with an image
-    prepared: whether the last lines set the program counter, and nothing was executed after them, as before a case
-    labels, lines, line_numbers, aliases, starts, stops, variables, data: in a class, those of `SourceNames`
+    outputs: in a class, in place of `output`: the last 64 KB of these bytes, in blocks by number
+    began: in a class, how often the user's machine was started anew; image: in a class, whether it started with an image
+    prepared: whether the last lines set the program counter and executed nothing after that, as before a case of an exercise
+    labels, lines, line_numbers, aliases, starts, stops, variables, data: in a class, the keys of `SourceNames`
     """
 
     run: Run
@@ -146,7 +151,7 @@ _LOOKS = ("state", "regs", "vcsr", "breaks", "trace")
 
 
 class WatchSet:
-    """The places of one user's memory that a page reads: words of the program, pages and rows of data; and the breakpoints."""
+    """The addresses in one user's memory that a page reads: words of the program, and pages and rows of data; and the breakpoints."""
 
     def __init__(self) -> None:
         self.code: set[int] = set()  # addresses of words
@@ -162,9 +167,9 @@ class WatchSet:
         self.followed: set[int] = set()
 
     def follow(self, line: str) -> None:
-        """Take up the places that a user's accepted line names.
+        """Add the addresses that a user's accepted line names. A line that enters, leaves or loads removes all addresses before.
 
-        For the lines that set up the start of a program, the place is the last page of the stack.
+        A line that sets up the start of a program adds the last page of the stack.
         """
         command = line.partition(" ")[2]
         if command in START:
@@ -191,10 +196,10 @@ class WatchSet:
                 self.breaks.discard(int(address, 16))
 
     def take_compiled(self, text: range, rows: Iterable[int]) -> None:
-        """Take up a compiled program.
+        """Add the addresses of a compiled program.
 
-        text: the addresses of its instructions, which are added to the program's words
-        rows: the addresses of the rows with its variables, which replace all rows that lines have named
+        text: the addresses of its instructions, which are added to the words of the program
+        rows: the addresses of the rows with its variables. They replace all rows that lines have named
         """
         self.code.update(text[: max(0, MAX_WORDS - len(self.code))])
         self.named, self.is_compiled = set(rows), True
@@ -208,7 +213,10 @@ class WatchSet:
         self.pages.update(pages[: max(0, limit - len(self.pages))])
 
     def add_accessed(self, word: int, x: Sequence[int]) -> None:
-        """Take up the page and the row of the address at which a load or store starts. word: the instruction; x: the registers before it"""
+        """Add the page and the row of the address at which a load or store starts. Other instructions add nothing.
+
+        word: the instruction's word; x: the scalar registers before the instruction
+        """
         address = base_address(word, x)
         if address is not None:
             self._add_pages(address % (1 << 48), 1)
@@ -223,15 +231,13 @@ def look_at(
     executed: str = "",
     is_done: bool = True,
 ) -> State:
-    """Return a user's state after some lines.
+    """Return a user's state after some lines. While the program runs, only `run`, `pc` and `output` are updated.
 
-    watch_set: the places of memory to read
-    before: the state before the lines
-    answers: the user's answers to them
-    executed: the line of the listing with the instruction that was executed, if the lines executed at most this one
-    is_done: whether some line wasn't read-only
-
-    While the program runs, the machine shows only `run` and `pc`. Everything else stays as it was.
+    watch_set: the addresses in memory to read
+    before: the user's state before the lines
+    answers: the answers to the lines that the user sent, and the stops of the user's program
+    executed: the listing's text for the only instruction that the lines may have executed; "" if they may have executed others
+    is_done: whether one of the lines or more wasn't read-only
     """
     opcode = int(executed[:8], 16) & 0x7F if executed else None
     has_vectors = opcode in (None, OP_V, LOAD_FP)
@@ -280,7 +286,7 @@ def _forget_last(state: State) -> None:
 
 
 def _set_position(state: State, place: Position, answers: Sequence[Answer]) -> None:
-    """Set whether the program runs, and its program counter. Add the output in the answers."""
+    """Set whether the program runs, and its program counter, and add the output that the answers show. place: the answer to `state`"""
     state["run"], state["pc"] = place.run, f"{place.pc:x}"
     for answer in answers:
         if isinstance(answer, Output) and answer.data:
@@ -290,7 +296,7 @@ def _set_position(state: State, place: Position, answers: Sequence[Answer]) -> N
 def _set_memory(
     guest: Guest, watch_set: WatchSet, state: State, scalar: ScalarRegisters, text: str, may_store: bool
 ) -> None:
-    """Set the memory of a state, if it may have changed or a page is new.
+    """Read the memory of a state, if it may have changed, or if a page was added to the watch set.
 
     text: the line of the listing at the program counter; may_store: whether an instruction may have stored something
     """
@@ -326,7 +332,7 @@ def _set_stop(state: State, answers: Sequence[Answer], text: str, control: Contr
 
 
 def add_executed(state: State, before: State | None) -> None:
-    """Add the elements of the last instruction to a state, if it is in the listing, and has vector operands.
+    """Add the elements of the last instruction to a state, if this instruction is in the listing and has vector operands.
 
     before: the state before that instruction; None if it is unknown
     """
@@ -349,9 +355,9 @@ def add_executed(state: State, before: State | None) -> None:
 
 
 def _known(word: int, vtype: int, kept: ReadRegisters) -> tuple[bool, bool]:
-    """Return whether the registers of an instruction's sources are known, and those of its destination.
+    """Return whether the values before an instruction of its source registers are known, and whether those of its destination are.
 
-    kept: the registers that the instruction can't have changed, which are known
+    vtype: the vector type; kept: the registers that the instruction can't have changed, whose values are known
     """
     instruction = vector_instruction(word, vtype)
     if instruction is None:
@@ -363,7 +369,7 @@ def _known(word: int, vtype: int, kept: ReadRegisters) -> tuple[bool, bool]:
 
 
 def add_last_instruction(state: State, before: State | None) -> None:
-    """Add the registers that the last instruction of a state read, and its memory accesses, if it is in the listing.
+    """Add the elements of the last instruction to a state, the registers that it read, and its memory accesses, if it is in the listing.
 
     before: the state before that instruction; None if it is unknown
     """
@@ -408,7 +414,7 @@ class VisibleRows:
         self._last: dict[str, str] = {}
 
     def add(self, state: State) -> None:
-        """Take up the user's next state."""
+        """Take the rows of the user's next state into account."""
         if "memory" not in state or state["memory"] is self._last:
             return
         last = self._last
@@ -419,7 +425,10 @@ class VisibleRows:
         self._relevant = {row: weight for row, weight in self._weights.items() if weight}
 
     def rows(self, watch_set: WatchSet, minimum: int = 1) -> set[str]:
-        """Return the addresses of the most relevant rows. minimum: 1 for rows that aren't zero, 2 for rows that have changed"""
+        """Return the addresses of the most relevant rows.
+
+        minimum: 1 to include rows that aren't zero; 2 to include only rows that have changed, in addition to rows that lines name
+        """
         listing = {f"{row * ROW_BYTES:x}" for row in {address // ROW_BYTES for address in watch_set.code}}
         weights = Counter({row: it for row, it in self._relevant.items() if it >= minimum and row not in listing})
         weights.update({f"{row:x}": 3 for row in watch_set.named if f"{row:x}" in self._weights})
@@ -451,7 +460,7 @@ def set_vectors(state: State, registers: Sequence[VectorRegister]) -> None:
 
 
 def _take_calls(state: State) -> None:
-    """Set the unsupported system calls of a state. Drop those whose address has no ECALL any more."""
+    """Set the unsupported system calls of a state. Remove the calls at addresses that no longer have an ECALL."""
     if not any(line.startswith(_ECALL_DIGITS) for line in state["code"].values()):
         state.pop("calls", None)
         return
@@ -471,7 +480,7 @@ def _code(guest: Guest, watch_set: WatchSet, pc: int, trace: Sequence[int], know
 
     The instruction that sets up a case of an exercise isn't listed.
 
-    known: the listing before, or {} if memory may have changed; its addresses are in the watch set
+    known: the listing before, whose addresses are in the watch set; empty if memory may have changed
     """
     if not known:
         watch_set.followed.clear()

@@ -7,7 +7,7 @@ from ..compilers.variables import Variable
 
 
 class Scope(TypedDict):
-    """Addresses of code, from `first` up to, and without, `end`."""
+    """A range of code addresses. first: the first address; end: the address after the last one"""
 
     first: int
     end: int
@@ -16,9 +16,10 @@ class Scope(TypedDict):
 class ShownLocation(Scope):
     """The location of a variable while the program counter is in a scope.
 
-    kind: `register`, the scalar register of this number; `vector`, the vector register of this number; `memory`, at the
-    register plus the offset; `value`, which is that sum itself; `untold`
-    offset: 64 bits, in hexadecimal digits
+    kind: where the variable is. `register`: in a scalar register. `vector`: in a vector register. `memory`: in memory, at the sum of a
+        scalar register and the offset. `value`: the variable isn't stored, and its value is this sum. `untold`: unknown
+    register: the number of the register
+    offset: the offset as 64 bits in hexadecimal digits
     """
 
     kind: str
@@ -30,10 +31,11 @@ class ShownVariable(TypedDict):
     """A variable of the source.
 
     declaration: in C's syntax, as `int32_t x[37]`
-    element: the kind of its numbers with their bits, as `i32`, or "" where it has none; counts: an array's dimensions
-    function: the function that has the variable, also an inlined one; "" for a variable of all functions
-    scopes: the addresses at which it is known; none for everywhere
-    locations: if none of them has the program counter, the compiler optimized the variable out
+    element: the type of its numbers with their width, as `i32`; "" if it has no numbers
+    counts: the dimensions of an array
+    function: the name of the function, which may be inlined, that declares the variable; "" for a variable outside of functions
+    scopes: the ranges of code in which the variable is visible; empty if it is visible everywhere
+    locations: where the variable is in each range of code. If no range contains the program counter, the compiler optimized it out
     """
 
     name: str

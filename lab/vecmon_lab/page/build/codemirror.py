@@ -27,9 +27,9 @@ STYLES = ("lib/codemirror.css", "addon/dialog/dialog.css", "addon/hint/show-hint
 
 
 def folder() -> pathlib.Path:
-    """Return the folder of CodeMirror 5: that of the variable CODEMIRROR, or else the one in a Python package, or else Debian's.
+    """Return the folder of CodeMirror 5: the one that the variable CODEMIRROR names, or that of the Python package, or Debian's.
 
-    Raises LabError if it doesn't exist.
+    Raises LabError if the folder lacks one of the files.
     """
     path = pathlib.Path(os.environ.get("CODEMIRROR") or (CODEMIRROR if CODEMIRROR.is_dir() else DEBIAN))
     if missing := [name for name in (LIBRARY, *ADDONS, *STYLES) if not (path / name).is_file()]:

@@ -39,7 +39,7 @@ def content_of(key: str, **values: str) -> Html:
 
 
 def cell(value: str | int, kind: str = "", tag: str = "td") -> Html:
-    """Return a cell of a table. kind: its class, by default `number` for a number and none for a text"""
+    """Return a cell of a table. kind: the cell's class; by default it is `number` for a number, and a text has no class"""
     text, own_kind = (f"{value:,}", "number") if isinstance(value, int) else (value, "")
     return element(tag, text, class_=kind or own_kind)
 
@@ -50,7 +50,10 @@ def share_text(share: float) -> str:
 
 
 def bar(shares: Mapping[str, float], kind: str = "", title: str = "") -> Html:
-    """Return a cell with a bar of parts. shares: the share of each part, 0 to 1, by its class; kind: the bar's class"""
+    """Return a cell of a table with a bar that is divided into parts.
+
+    shares: the share of each part in the bar, 0 to 1, by the part's class; kind: the bar's class; title: the cell's tooltip
+    """
     parts = [element("span", class_=name, data_share=share_text(share)) for name, share in shares.items()]
     return element("td", element("div", *parts, class_=kind), class_="bar", title=title)
 
@@ -58,7 +61,7 @@ def bar(shares: Mapping[str, float], kind: str = "", title: str = "") -> Html:
 def elements_bar(numbers: Sequence[int]) -> Html:
     """Return a cell with a bar of active, masked-off and tail elements.
 
-    numbers: how many elements there are of each kind; if all are 0, the cell is empty
+    numbers: the number of elements of each kind, in the order of KINDS; if all are 0, the cell is empty
     """
     whole = sum(numbers)
     if not whole:

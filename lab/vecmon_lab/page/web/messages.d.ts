@@ -1,6 +1,10 @@
 // The types of messages. `.venv/bin/python -m support.message_types` writes this file from the lab's Python types.
 
-/** Bytes of memory that an instruction read or wrote: the address in hexadecimal digits, and the number of bytes. */
+/**
+ * Consecutive bytes of memory that an instruction read or wrote.
+ *
+ * address: the address of the first byte, in hexadecimal digits; length: the number of bytes
+ */
 export interface Access {
   address: string;
   length: number;
@@ -362,11 +366,11 @@ export interface LessonData {
 }
 
 /**
- * The vector types that may be in force from a line of a source on, until another line has some.
+ * The vector types that may be in force from a line of a source on, up to the next line that has an entry.
  *
- * line: its number; it sets them itself, or its first instruction is reached with them
- * types: as vtype, in hexadecimal digits; none if any may be in force
- * vl: missing if it is unknown
+ * line: the number of the line, which sets the types itself, or whose first instruction is reached with them
+ * types: the values of vtype, in hexadecimal digits; empty if vtype may have any value
+ * vl: the value of vl; missing if it is unknown
  */
 export interface LineType {
   line: number;
@@ -460,9 +464,9 @@ export interface MachineView {
 /**
  * A mistake or a warning at a place in a source.
  *
- * line, column: from 1 on; line 0 if it is at no line, as a linker's message
- * length: of the word there in characters; 0 at the end of a line, or at no line
- * code: a warning's option, as `-Wunused-variable`, or the machine's refusal, as `E15`
+ * line, column: the place, from 1 on; line 0 for a message without a place, such as a linker's
+ * length: the number of characters of the word at this place; 0 at the end of a line, or without a place
+ * code: the compiler's option for a warning, as `-Wunused-variable`, or the code of the machine's refusal, as `E15`
  * fix: texts that may replace the word, the nearest one first
  */
 export interface Mistake {
@@ -579,7 +583,7 @@ export interface Outcome {
   told: CheckResult;
 }
 
-/** How elements that follow one another took part, and their number. */
+/** The outcome of consecutive elements, and the number of these elements. */
 export interface OutcomeRun {
   outcome: "active" | "masked" | "tail" | "prestart" | "fault" | "pending" | "kept" | "idle";
   count: number;
@@ -596,7 +600,12 @@ export interface PageHello {
   lost: string[];
 }
 
-/** Pairs of an element of the source and one of the result; each is `step` elements of the result further than the one before. */
+/**
+ * Pairs of an element of the source and an element of the result, whose source elements are consecutive.
+ *
+ * source, result: the indices of the elements in the first pair; count: the number of pairs
+ * step: the distance from the result's element in one pair to that in the next: 1, or 0 if it is the same element
+ */
 export interface PairRun {
   source: number;
   result: number;
@@ -647,11 +656,11 @@ export interface ProblemsResponse {
 }
 
 /**
- * Registers as they were before an instruction, in hexadecimal digits. Those that aren't known are left out.
+ * The values of registers before an instruction, in hexadecimal digits. Registers whose values are unknown are left out.
  *
- * x: by number, the scalar registers that it read, except x0
- * v: by number, the vector registers of its operands, the destination's too
- * v0, vl, vtype, vstart: whatever the instruction is
+ * x: the scalar registers that the instruction read, except x0, by number
+ * v: the vector registers of all its operands, including the destination, by number
+ * v0, vl, vtype, vstart: the values of these registers, even if the instruction doesn't read them
  */
 export interface ReadRegisters {
   x: { [name: string]: string };
@@ -723,7 +732,7 @@ export interface RunRequest {
   breaks?: number[];
 }
 
-/** Addresses of code, from `first` up to, and without, `end`. */
+/** A range of code addresses. first: the first address; end: the address after the last one */
 export interface Scope {
   first: number;
   end: number;
@@ -818,8 +827,9 @@ export interface ShoulderRequest {
 /**
  * A memory access: `Access` in meanings/instruction.py.
  *
- * start, step: the address of element 0 in hexadecimal digits, and the bytes from one element to the next, or from a byte of a mask
- * addresses: in place of them, of each element, in hexadecimal digits
+ * store: whether it is a store; bytes: the distance from one field of a segment to the next, in bytes
+ * start, step: the address of element 0 in hexadecimal digits, and the number of bytes from each element, or byte of a mask, to the next
+ * addresses: the address of each element in hexadecimal digits, in place of `start` and `step` if the distances differ
  */
 export interface ShownAccess {
   base: number;
@@ -837,20 +847,23 @@ export interface ShownCondition {
   holds: boolean;
 }
 
-/** Numbers of a type, one behind another, or a text; count: of numbers, or bytes of a text */
+/** Consecutive numbers of one type, or a text. count: how many numbers there are, or the number of bytes of the text */
 export interface ShownData {
   type: "i8" | "u8" | "i16" | "u16" | "i32" | "u32" | "i64" | "u64" | "text";
   count: number;
 }
 
 /**
- * The calculation of elements of one form.
+ * The calculation of elements whose calculations have the same form.
  *
- * elements: runs of them, each the first and the number of elements
- * parts: the right side
- * sign: of the results, which are the bits of the elements; without it as the reader's form of numbers says
- * others: exact results that are other numbers, by element: signed terms as the reader wants, and unsigned
- * target: a scalar register in place of elements
+ * elements: runs of the elements, each as the index of its first element and the number of elements
+ * parts: the right side of the equation, for the first of the elements
+ * causes: the conditions that selected this equation
+ * sign: whether the elements' bits, which are the results, are signed or unsigned numbers; if it is missing, the reader's form of
+ *     numbers decides
+ * others: the exact results of elements whose bits represent another number, by the element's index: with terms of undefined sign
+ *     as signed numbers, and as unsigned numbers
+ * target: the scalar register that is written, if the result isn't elements
  */
 export interface ShownEquation {
   elements: number[][];
@@ -864,10 +877,12 @@ export interface ShownEquation {
 /**
  * The vector instruction that was executed last, or that faulted: `ExecutedInstruction` in meanings/instruction.py.
  *
- * does: its meaning in a sentence, with names in backquotes; the terms are its scalar registers
- * results: without it, as the outcomes
- * known, old: whether the registers of its sources, and of its destination, are known as they were before it
- * follows: whether the state before is the one right before it
+ * does: a sentence about the instruction's effect, with names in backquotes; the terms are its scalar registers
+ * results: the outcomes of the destination's elements; missing if they are the same as `outcomes`
+ * shortened: true if the instruction reduced vl because an element can't be read; otherwise missing
+ * known: whether the values of the source registers before the instruction are known
+ * old: whether the values of the destination's registers before the instruction are known
+ * follows: whether the state right before the instruction was read, so that all registers before it are known
  */
 export interface ShownExecuted {
   does: (string | ShownTerm)[];
@@ -903,9 +918,10 @@ export interface ShownGroup {
 /**
  * The location of a variable while the program counter is in a scope.
  *
- * kind: `register`, the scalar register of this number; `vector`, the vector register of this number; `memory`, at the
- * register plus the offset; `value`, which is that sum itself; `untold`
- * offset: 64 bits, in hexadecimal digits
+ * kind: where the variable is. `register`: in a scalar register. `vector`: in a vector register. `memory`: in memory, at the sum of a
+ *     scalar register and the offset. `value`: the variable isn't stored, and its value is this sum. `untold`: unknown
+ * register: the number of the register
+ * offset: the offset as 64 bits in hexadecimal digits
  */
 export interface ShownLocation {
   first: number;
@@ -919,9 +935,9 @@ export interface ShownLocation {
  * A vector register operand of an instruction.
  *
  * register: the number of the first register
- * bits: whether it is a mask, with a bit for each element
- * written: whether it is the result
- * masked: whether elements whose bit in v0 is 0 are masked off, and v0 still has the mask
+ * bits: whether the operand is a mask, with a bit for each element
+ * written: whether the operand is the destination
+ * masked: whether elements of the operand are masked off if their bit in v0 is 0, and v0 still has the mask after the instruction
  */
 export interface ShownOperand {
   register: number;
@@ -937,16 +953,18 @@ export interface ShownRegisterGroup {
 }
 
 /**
- * A number in a formula or an equation, and its name; without what it doesn't have.
+ * A number in a formula or an equation, and its name. Keys that don't apply are missing.
  *
- * value: in decimal digits, of a scalar register or a number with a name
- * name: as `sew`; not of registers, and of the number of the element
- * scalar: the number of a scalar register
- * register: the first vector register of the group that has the element; width: in bits, 1 for a bit of a mask
- * sign: how the number is taken: signed or unsigned; without it as the reader's form of numbers says
- * function: around its name, as `signed`
- * index: of the element; where `by` is `element`, the distance from the element of the result; 0 is left out
- * by: `element`, or `pair`: the source in the pair of the result's element; without it all elements take the same one
+ * value: the number in decimal digits, for a scalar register or a number with a name
+ * name: the name, such as `sew`; missing for registers, and for the index of the element
+ * scalar: the number of the scalar register
+ * register: the number of the first vector register of the group that has the element
+ * width: the width of the number in bits, 1 for a bit of a mask
+ * sign: whether the bits are a signed or an unsigned number; if it is missing, the reader's form of numbers decides
+ * function: the function around the name, such as `signed`
+ * index: the index of the element; if `by` is `element`, the distance from the index of the result's element. Missing if it is 0
+ * by: `element` if each element of the result uses another element, at the distance `index`; `pair` if it uses the source in its pair;
+ *     missing if all elements of the result use the same number
  */
 export interface ShownTerm {
   value?: string;
@@ -964,10 +982,11 @@ export interface ShownTerm {
  * A variable of the source.
  *
  * declaration: in C's syntax, as `int32_t x[37]`
- * element: the kind of its numbers with their bits, as `i32`, or "" where it has none; counts: an array's dimensions
- * function: the function that has the variable, also an inlined one; "" for a variable of all functions
- * scopes: the addresses at which it is known; none for everywhere
- * locations: if none of them has the program counter, the compiler optimized the variable out
+ * element: the type of its numbers with their width, as `i32`; "" if it has no numbers
+ * counts: the dimensions of an array
+ * function: the name of the function, which may be inlined, that declares the variable; "" for a variable outside of functions
+ * scopes: the ranges of code in which the variable is visible; empty if it is visible everywhere
+ * locations: where the variable is in each range of code. If no range contains the program counter, the compiler optimized it out
  */
 export interface ShownVariable {
   name: string;
@@ -1032,27 +1051,28 @@ export interface Start {
 }
 
 /**
- * A user's state; addresses and values are hexadecimal digits without leading zeros, and bytes two digits each.
+ * A user's state. Addresses and values are in hexadecimal digits without leading zeros, and bytes have two digits each.
  *
- * run: without a machine there is nothing else
- * pc, and all up to `memory`: where the program was stopped at least once; a program that runs has them as they were before, but pc
- * x: 32 values by number; v: 32 times 32 bytes by number; policy: `keep` or `ones`
- * code, operands: the program's words with their texts, and their vector operands, by address
- * groups: the vector register groups in use, by their first registers: as the instruction took them that wrote them last
- * targets: the address to which a branch or `jal` of the code may go, by its own
- * memory: rows of 16 bytes by address
- * instruction: the address of the instruction that the last lines executed last, or that faulted
- * executed: that instruction's elements, if it has vector operands
- * read, accessed: in a class, registers before that instruction, and the memory that it accessed, as far as they are known
- * faulted, illegal: whether that instruction faulted, and whether it is illegal
- * stop: why the program stopped in what was just done, in words
- * calls: calls that the machine doesn't support, in words by the address of the ECALL: those that the code shows, and those that the
- *     program reached; without one there is no such key
+ * run: whether the program runs. If the user is absent, there are no other keys
+ * pc, and all keys up to `memory`: present once the program has been stopped. While it runs, only pc is updated
+ * x: the values of the 32 scalar registers, by number; v: the 32 bytes of each vector register, by number
+ * policy: the policy for agnostic elements, `keep` or `ones`
+ * code: the words of the program with their texts, by address; operands: the vector operands of each word, by address
+ * groups: the vector register groups to show, by their first registers. A register is in the group of the last instruction that wrote it
+ * targets: the address to which a branch or `jal` may go, by the instruction's address
+ * memory: rows of 16 bytes, by the address of the first byte
+ * instruction: the address of the last instruction that was executed in the last lines, or that faulted
+ * executed: the elements of this instruction, if it has vector operands
+ * read, accessed: in a class, the registers before this instruction, and the memory that it accessed, as far as they are known
+ * faulted, illegal: whether this instruction faulted, and whether it is illegal
+ * stop: sentences that explain why the program stopped in the last lines
+ * calls: a sentence about each call that the machine doesn't support, by the address of the ECALL. The calls are those that the code
+ *     shows, and those that the program has reached. If there are none, the key is missing
  * output: the bytes that answers to `out` have shown
- * outputs: in a class in place of it, the last 64 KB of them, in blocks by number
- * began, image: in a class, how often the user's machine began anew, and whether it began with an image
- * prepared: whether the last lines set the program counter, and nothing was executed after them, as before a case
- * labels, lines, line_numbers, aliases, starts, stops, variables, data: in a class, those of `SourceNames`
+ * outputs: in a class, in place of `output`: the last 64 KB of these bytes, in blocks by number
+ * began: in a class, how often the user's machine was started anew; image: in a class, whether it started with an image
+ * prepared: whether the last lines set the program counter and executed nothing after that, as before a case of an exercise
+ * labels, lines, line_numbers, aliases, starts, stops, variables, data: in a class, the keys of `SourceNames`
  */
 export interface State {
   run: "absent" | "stopped" | "running";
