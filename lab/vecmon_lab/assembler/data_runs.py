@@ -28,7 +28,7 @@ class DataItem:
 
     @property
     def address(self) -> int:
-        """Return the address of the first byte, once sections have their bases."""
+        """The address of the first byte, once sections have their bases."""
         return self.section.base + self.offset
 
 

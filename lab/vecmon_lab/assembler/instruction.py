@@ -50,7 +50,7 @@ class Statement(NamedTuple):
 
     @property
     def command(self) -> str:
-        """Return the monitor's command that writes the instruction."""
+        """The monitor's command that writes the instruction."""
         return f"asm {self.address:x} {self.text}"
 
 
@@ -183,7 +183,7 @@ class Instruction:
 
     @property
     def _written(self) -> str:
-        """Return the name and the operands as the source has them, with a space after each comma."""
+        """The name and the operands as the source has them, with a space after each comma."""
         operands = ("".join(token.text for token in operand) for operand in self.operands)
         return f"{self.name.text} {', '.join(operands)}".rstrip()
 

@@ -19,17 +19,17 @@ class NumberType:
 
     @property
     def size(self) -> int:
-        """Return the size of a number in bytes."""
+        """The size of a number in bytes."""
         return struct.calcsize(f"<{self.code}")
 
     @property
     def minimum(self) -> int:
-        """Return the smallest number of the type."""
+        """The smallest number of the type."""
         return -(1 << 8 * self.size - 1) if self.code.islower() else 0
 
     @property
     def maximum(self) -> int:
-        """Return the largest number of the type."""
+        """The largest number of the type."""
         return self.minimum + (1 << 8 * self.size) - 1
 
     def packed(self, numbers: Sequence[int]) -> bytes:

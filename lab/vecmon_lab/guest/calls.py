@@ -26,7 +26,7 @@ class Code:
     def __init__(self) -> None:
         self.places: Sequence[int] = ()
         self.uncertain: Sequence[int] = ()
-        self._session: Session | None = None  # the session whose script was read
+        self._session: Session | None = None  # the session to which the read part of the script belongs
         self._size = 0  # bytes of the script that were read
         self._lines = list[bytes]()  # the lines that define the code
         self._pages = set[int]()  # executable pages
@@ -48,7 +48,7 @@ class Code:
         self.places, self.uncertain = self._found[key]
 
     def _follow(self, guest: "Guest", command: bytes, words: bytes) -> None:
-        """Apply a line of the script that may change the code. words: the arguments of the command"""
+        """Update the lines and pages that define the code, for a line of the script. command, words: the command and its arguments"""
         arguments = words.decode("ascii").split()
         if command in (b"leave", b"load"):
             self._lines, self._pages = [], set()
@@ -62,9 +62,9 @@ class Code:
 
 
 def unshown_calls(image: bytes, executed: Iterable[int]) -> list[int]:
-    """Return the addresses of ECALLs for which an image's code doesn't show a supported call.
+    """Return the addresses of executed ECALLs for which an image's code doesn't show a supported call, in rising order.
 
-    executed: the addresses to select from
+    executed: the addresses of the executed ECALLs
     """
     words = dict[int, int]()
     for address, rights, _, data in segments_of(image):
@@ -75,9 +75,9 @@ def unshown_calls(image: bytes, executed: Iterable[int]) -> list[int]:
 
 
 def shown_calls(words: Mapping[int, int]) -> dict[int, str]:
-    """Return the ECALLs whose call the code shows, by address.
+    """Return a sentence about each ECALL whose call the code shows, by the ECALL's address.
 
-    Each has a sentence about an unsupported call, or "" for a supported one. words: the code's words by address
+    The sentence says why the call isn't supported; it is "" for a supported call. words: the code's words by address
     """
     sentences, targets = dict[int, str](), _targets(words)
     for place in (address for address, word in words.items() if word == ECALL):
@@ -98,7 +98,7 @@ def words_in(guest: "Guest", pages: Sequence[int]) -> dict[int, int]:
 
 
 def _words(address: int, data: bytes) -> dict[int, int]:
-    """Return the words in bytes, by address. An address is a multiple of 4. address: of the first byte"""
+    """Return the words in bytes of memory, by the words' addresses, which are multiples of 4. address: the address of the first byte"""
     first = -address % 4
     data = data[first : first + (len(data) - first) // 4 * 4]
     return {address + first + 4 * number: word for number, (word,) in enumerate(struct.iter_unpack("<I", data))}
@@ -115,12 +115,12 @@ def _image_pages(guest: "Guest", name: str) -> Iterator[int]:
 
 
 def _pages(address: int, length: int) -> range:
-    """Return the numbers of the pages that a range of bytes overlaps."""
+    """Return the addresses of the pages that a range of bytes overlaps. address, length: the range's first address and its size"""
     return range(address // PAGE_BYTES * PAGE_BYTES, address + length, PAGE_BYTES)
 
 
 def _search(words: Mapping[int, int]) -> tuple[Sequence[int], Sequence[int]]:
-    """Return the addresses of all ECALLs among words, and of the uncertain ones."""
+    """Return the addresses of all ECALLs among words, and those of the ECALLs for which the code doesn't show a supported call."""
     places = sorted(address for address, word in words.items() if word == ECALL)
     targets = _targets(words) if places else set()
     uncertain = [place for place in places if not _is_shown(words, targets, place)]

@@ -203,7 +203,10 @@ def line_addresses(rows: Iterable[SourceRow], copies: Collection[Copy]) -> dict[
 
 
 def _runs(rows: Sequence[SourceRow], copies: Collection[Copy]) -> dict[tuple[str, int], list[list[int]]]:
-    """Return the runs of each line in each copy, by line and copy number: a run's first address, and its recommended ones."""
+    """Return the runs of each line in each copy of a function, by the line and the number of the copy.
+
+    A run is a list: its first address, and then its recommended addresses for a breakpoint.
+    """
     copy_at, by_number = innermost((row.address for row in rows), copies), {copy.number: copy for copy in copies}
     runs, before = dict[tuple[str, int], list[list[int]]](), list[tuple[str, int]]()
     for row in rows:
@@ -221,9 +224,12 @@ def _runs(rows: Sequence[SourceRow], copies: Collection[Copy]) -> dict[tuple[str
 def _lines_at(
     row: SourceRow, copy: Copy | None, by_number: Mapping[int, Copy]
 ) -> dict[tuple[str, int], tuple[int, ...]]:
-    """Return the line of a row, and the lines that call the copies around it, each with the number of the copy that contains it.
+    """Return the line of a row, and the lines that call the inlined copies around the row's instruction.
 
-    The values are the addresses where the copy that the line calls is entered; none for the row's own line.
+    A key is a line and the number of the copy that contains the line, or -1. The value has the addresses where the copy that the line
+    calls is entered; it is empty for the row's own line.
+
+    copy: the innermost copy that contains the instruction, or None; by_number: all copies by their numbers
     """
     lines: dict[tuple[str, int], tuple[int, ...]] = {(row.line, copy.number if copy else -1): ()}
     while copy and copy.called:

@@ -41,7 +41,12 @@ class Operand:
 
 @dataclass(frozen=True)
 class VectorInstruction:
-    """A vector instruction: its name or kind, its requirements, whether v0 is its mask, and its operands, with vd first."""
+    """A vector instruction under a vector type.
+
+    name: the name of an operation, such as `vadd`, or the text that the table of words has for a load or store
+    traits: the requirements in addition to the operands' widths
+    is_masked: whether bit vm is 0, so that the instruction reads v0; operands: the vector register operands, with vd first
+    """
 
     name: str
     traits: frozenset[Trait]
@@ -96,7 +101,10 @@ def decode(word: int, sew: int = 8, lmul: Fraction = Fraction(1)) -> VectorInstr
 
 
 def _operation(fields: Mapping[str, int]) -> tuple[str, list[str]]:
-    """Return the name of an OP-V operation, and the cells of its shape. Raises NoInstruction."""
+    """Return the name of an OP-V operation, and the cells of its row in the table of shapes. Raises NoInstruction if there is none.
+
+    fields: the values of the word's fields, by name
+    """
     (half, form), funct6 = _FORMS[fields["funct3"]], f"{fields['funct6']:06b}"
     there = [row[2:] for row in _OPERATIONS if row[:2] == [half, funct6]]
     of_form = [(name, shape, condition) for forms, name, shape, condition in there if form in forms]
@@ -118,7 +126,8 @@ def _operation(fields: Mapping[str, int]) -> tuple[str, list[str]]:
 def _operand(noun: str, place: str, cell: list[str], fields: Mapping[str, int], sew: int, lmul: Fraction) -> Operand:
     """Return the operand in a field.
 
-    noun: its role; place: the field; cell: the operand's cell in the table of shapes; fields: the word's fields; sew, lmul: the type
+    noun: its role; place: the name of the field; cell: the words of the operand's cell in the table of shapes
+    fields: the values of the word's fields, by name; sew, lmul: the vector type
     """
     width, *others = cell
     part = _PARTS.get(width)

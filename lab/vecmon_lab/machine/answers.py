@@ -316,7 +316,7 @@ def elements_in(data: bytes, width: int) -> list[int]:
 
 
 def is_refusal(answer: Sequence[str]) -> bool:
-    """Whether an answer is a refusal."""
+    """Return whether an answer is a refusal."""
     return _REFUSAL.fullmatch(answer[0]) is not None
 
 
@@ -326,17 +326,17 @@ def first_word(line: str) -> str:
 
 
 def is_empty_output(line: str) -> bool:
-    """Whether a line of an answer shows empty output."""
+    """Return whether a line of an answer shows empty output."""
     return line[2:] == _NO_OUTPUT
 
 
 def is_stop(line: str) -> bool:
-    """Whether a line of an answer shows that a program has stopped by itself."""
+    """Return whether a line of an answer shows that a program has stopped by itself."""
     return _STOP_LINE.fullmatch(line) is not None
 
 
 def is_whole(line: str, answer: Sequence[str]) -> bool:
-    """Whether `answer`, one line or more, is the whole answer to `line`.
+    """Return whether `answer`, one line or more, is the whole answer to `line`.
 
     Call this after each line that is received. Raises OutOfStep if the last line of `answer` can't be a part of the answer.
     """
@@ -352,7 +352,7 @@ def is_whole(line: str, answer: Sequence[str]) -> bool:
 
 @functools.lru_cache(maxsize=4096)
 def _fits(line: str, latest: str) -> bool:
-    """Whether `latest` can be a line of the answer to an accepted line."""
+    """Return whether `latest` can be a line of the answer to an accepted line."""
     form = _shape(line)[0]
     return latest[:2] == line[:2] and form is not None and form.fullmatch(latest) is not None
 

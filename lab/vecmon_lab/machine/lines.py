@@ -42,7 +42,7 @@ def check_text(text: str, start: int = 0) -> None:
 
 @functools.lru_cache(maxsize=4096)
 def _is_line(line: str) -> bool:
-    """Whether a line has the form that `check_line` requires. Most lines are sent many times, so results are cached."""
+    """Return whether a line has the form that `check_line` requires. Most lines are sent many times, so results are cached."""
     return _LINE.fullmatch(line) is not None
 
 
@@ -58,5 +58,5 @@ def command_of(line: str) -> str:
 
 @functools.lru_cache(maxsize=4096)
 def is_look(line: str) -> bool:
-    """Whether a line is read-only: it changes nothing, whatever its answer is."""
+    """Return whether a line is read-only: it changes nothing, whatever its answer is."""
     return f"{line[:1]} {''.join(words_of(line)[:1])}" in LOOKS

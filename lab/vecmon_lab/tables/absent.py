@@ -13,7 +13,7 @@ def absent() -> list[tuple[re.Pattern[str], str]]:
 
 
 def floating_point(name: str) -> bool:
-    """Whether a name in small letters is that of a floating-point instruction or register."""
+    """Return whether a name is that of a floating-point instruction or register. name: in lower case"""
     return re.fullmatch(_records()["floating-point"]["names"], name) is not None
 
 

@@ -12,15 +12,15 @@ _FORMULAS = ("=", "+", "-", "@", "\t", "\r")  # first characters of cells that a
 
 
 def read_table(name: str) -> list[list[str]]:
-    """Return the rows of a table of this folder, each with its cells."""
+    """Return the rows of a table of this folder, each as a list of its cells. name: the name of the table's file without `.txt`"""
     lines = pathlib.Path(__file__).with_name(f"{name}.txt").read_text("utf-8").splitlines()
     return [re.split(" {2,}", line) for line in lines if line and not line.startswith("#")]
 
 
 def table_lines(rows: Sequence[Sequence[object]], texts: int) -> Iterator[str]:
-    """Return rows as lines with aligned columns.
+    """Yield the rows of a table as lines with aligned columns.
 
-    texts: the number of columns with texts, which come first and are aligned left; the others are aligned right
+    texts: the number of columns with texts, which come first and are aligned left; the other columns are aligned right
     """
     widths = [max(len(str(cell)) for cell in column) for column in zip(*rows)]
     for row in rows:
@@ -31,7 +31,7 @@ def table_lines(rows: Sequence[Sequence[object]], texts: int) -> Iterator[str]:
 def html_table(rows: Sequence[Sequence[object]], texts: int) -> str:
     """Return rows as an HTML table, as notebooks show it; the first row is the head.
 
-    texts: the number of columns with texts, which come first and are aligned left; the others are aligned right
+    texts: the number of columns with texts, which come first and are aligned left; the other columns are aligned right
     """
     lines = []
     for row, tag in zip(rows, ("th", *["td"] * len(rows))):

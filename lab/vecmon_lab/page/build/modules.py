@@ -23,7 +23,7 @@ def join_modules(entry: str, read: Callable[[str], str], replaced: Mapping[str, 
 
     entry: the path of the module
     read: returns the text of a file by its path
-    replaced: for paths of modules, the path of the module to import instead
+    replaced: the paths of modules to import in place of other modules, by the other modules' paths
 
     Raises ValueError if modules import each other, if a module imports something that isn't exported, or if two have the same name.
     """

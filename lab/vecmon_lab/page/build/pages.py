@@ -38,9 +38,9 @@ class Page:
         folder: pathlib.Path = PAGES,
         replaced: Mapping[pathlib.Path, pathlib.Path] = MappingProxyType({}),
     ) -> None:
-        """folder: has the page's HTML and script, and its styles unless they are in STYLES
+        """folder: the folder with the page's HTML and script, and with those of its styles that aren't in STYLES
 
-        replaced: for paths of modules, the path of the module to use instead
+        replaced: the paths of modules to use in place of other modules, by the other modules' paths
         """
         text = page_file(PAGES / "page.html").replace("$body", page_file(folder / f"{name}.html"))
         for piece in PIECES:
@@ -79,12 +79,15 @@ def _page(name: str) -> Page:
 
 
 def page_with_data(name: str, title: str, data: object, **contents: str) -> str:
-    """Return a page that loads no files. data: the data that its script shows; contents: HTML for its other places"""
+    """Return a page that loads no files, as HTML.
+
+    name: of the page; title: the title as text; data: the data that the page's script shows; contents: HTML for its other places
+    """
     return filled_page(name, title, **contents, data=json.dumps(data, separators=(",", ":")).replace("<", "\\u003c"))
 
 
 def filled_page(name: str, title: str, **contents: str) -> str:
-    """Return a page that loads no files. contents: HTML for its places"""
+    """Return a page that loads no files, as HTML. name: of the page; title: the title as text; contents: HTML for its places"""
     policy = f'<meta http-equiv="Content-Security-Policy" content="{_page(name).policy}">'
     return _page(name).text(html.escape(title), policy=policy, **contents)
 

@@ -49,7 +49,7 @@ def page_text(key: str, **values: object) -> str:
 
 
 def fill(name: str, text: str) -> str:
-    """Return the content of a page's file with texts in place of keys. name: of the file
+    """Return the content of a page's file with texts in place of keys. name: the file's name; text: its content
 
     In HTML, a key is `{{KEY}}`. In its text, backquotes mark code, and <em>, <kbd> and <strong> are elements. In a script, a text replaces
     the call `textOf("KEY")`, or only the key if the call has values. Raises ValueError if there is no text for a key.
