@@ -8,7 +8,7 @@ from .line import Operand, Token
 
 REGISTER_NAMES = {name: name for name in ["v0.t", *(f"{letter}{number}" for letter in "xv" for number in range(32))]}
 REGISTER_NAMES |= REGISTERS
-"""The names of registers in the machine's texts, by their names in sources."""
+"""The names of registers in the machine's syntax, by the names that sources may use."""
 
 KEYWORD = re.compile("|".join(f"{name} (?:{words.replace(' ', '|')})" for name, words in read_table("keywords")))
 """The name of an instruction, a space, and a keyword that the instruction takes as an operand, such as a control register."""

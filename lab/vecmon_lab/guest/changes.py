@@ -22,7 +22,7 @@ from ..machine.answers import (
 )
 from .guest import Guest
 
-WORDS_AT_ONCE = 16  # words that one command shows
+WORDS_AT_ONCE = 16  # the most words that one `dis` shows here
 NAMES = [*(f"x{number}" for number in range(32)), *CONTROL]  # the names of scalar and control registers
 CONTROLLING = (OP_V, SYSTEM, LOAD_FP, STORE_FP)  # opcodes of instructions that may write control registers
 
@@ -112,7 +112,7 @@ class Registers:
         return [*self.x, *vars(self.control).values()]
 
     def groups(self, operand: Operand) -> Iterator[tuple[int, list[int]]]:
-        """Yield the first register of each group of an operand, and the elements of the group."""
+        """Yield the number of the first register of each group of an operand, and the values of the group's elements."""
         for register in range(operand.registers.start, min(operand.registers.stop, 32), operand.group):
             group = self.v[register * REGISTER_BYTES : (register + operand.group) * REGISTER_BYTES]
             yield register, elements_in(group, operand.eew)
@@ -168,7 +168,7 @@ class Stepper:
         return retired
 
     def fetch(self, pc: int) -> tuple[int, str]:
-        """Return the word at an address and its text, or 0 and "" if nothing can be fetched."""
+        """Return the word at an address and its text; 0 and "" if no instruction can be fetched there."""
         if pc not in self._listing:
             number = min(WORDS_AT_ONCE, (PAGE_BYTES - pc % PAGE_BYTES) // 4)
             (listing,) = self.guest.ask(f"dis {pc:x} {number}")
@@ -205,7 +205,7 @@ def _looks(word: int, targets: Sequence[Operand]) -> list[str]:
 
 
 def _element_changes(target: Operand, before: Registers, after: Registers) -> Iterator[ElementsChange]:
-    """Yield the elements that changed in each group of a destination."""
+    """Yield the runs of changed elements in each group of a destination. before, after: the registers before and after"""
     for (register, old), (_, new) in zip(before.groups(target), after.groups(target)):
         for first, last in runs(old, new, target.eew == 1):
             yield ElementsChange(register, target.eew, first, old[first:last], new[first:last])

@@ -10,9 +10,9 @@ IN_A_ROW = 4  # scalar registers
 
 
 def registers_html(pc: int, x: Sequence[int], control: ControlRegisters, vectors: Sequence[bytes]) -> str:
-    """Return HTML with the registers that aren't 0, and the control registers. Vector registers have elements of SEW, element 0 first.
+    """Return HTML with the control registers, and the scalar and vector registers that aren't 0.
 
-    vectors: the 32 bytes of each vector register, by number
+    Vector registers are shown as elements of width SEW, element 0 first. vectors: the 32 bytes of each vector register, in order
     """
     control_values = {"pc": f"{pc:x}", **vars(control), "vtype": vtype_text(control.vtype)}
     scalars = [f"x{number}={value:x}" for number, value in enumerate(x) if value]

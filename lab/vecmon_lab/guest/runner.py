@@ -59,9 +59,9 @@ class Reporter:
 class Runner:
     """Runs a guest's program in slices.
 
-    report: is called for unsupported calls
-    looks_left: how many more times the registers are read at uncertain calls
-    has_exact_ticks: whether exactly the ticks of `go` were used; False after a slice that ended before a call
+    report: is called with the address of each unsupported call and a sentence about it
+    looks_left: how many more times the registers may be read at uncertain calls
+    has_exact_ticks: whether the program has used exactly the ticks that were counted; False once a slice has ended before a call
     """
 
     def __init__(self, guest: "Guest", report: Report) -> None:

@@ -140,7 +140,7 @@ class SourceLines:
 
 
 def source_rows(elf: "ELFFile") -> Iterator[SourceRow]:
-    """Yield the rows of the line tables, in each table's order."""
+    """Yield the rows of a file's line tables, those of each table in its order."""
     for debug, unit in units_of(elf):
         program = debug.line_program_for_CU(unit)
         names = _file_names(debug, unit)
@@ -180,7 +180,7 @@ def _copies_of(debug: "DWARFInfo", unit: "CompileUnit", code: Code) -> Iterator[
 
 
 def innermost(addresses: Iterable[int], copies: Iterable[Copy]) -> dict[int, Copy]:
-    """Return the innermost copy that contains each address."""
+    """Return the innermost copy that contains each address, by the address. Addresses in no copy are left out."""
     ordered, found = sorted(set(addresses)), dict[int, Copy]()
     for copy in sorted(copies):
         inside = slice(bisect.bisect_left(ordered, copy.first), bisect.bisect_left(ordered, copy.end))

@@ -8,7 +8,7 @@ import re
 
 from .. import LabError
 
-DIGITS = "12345678"  # one for each user
+DIGITS = "12345678"  # the users' digits, with which their lines begin
 LOOKS = {f"{digit} {word}" for digit in DIGITS for word in "regs vcsr vreg dis peek state breaks trace".split()}
 LOOKS |= {"* list", "* stats"}
 

@@ -223,7 +223,7 @@ class Session(contextlib.AbstractContextManager["Session"]):
     def rewound(self, script: bytes, check: Callable[[], object] = lambda: None) -> "Session":
         """Return a new session with the same images that has executed `script`. Raises as `do_script` does.
 
-        If `script` begins with one of `starts`, its lines aren't executed: other lines set up the machine's state after them.
+        The lines of the longest of `starts` with which `script` begins aren't executed, if other lines can set up the same state.
 
         check: is called repeatedly while the script is executed. An error that it raises closes the new session
         """

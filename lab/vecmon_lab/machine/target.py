@@ -123,7 +123,7 @@ def extensions_of(arch: str) -> list[str]:
 
 
 def _lacking(names: Iterable[str]) -> Iterator[str]:
-    """Yield the extensions that the machine lacks, except those that another missing extension implies."""
+    """Yield those of the extensions that the machine lacks, except extensions that another missing extension implies."""
     kinds, implied = {}, {}
     for name, kind, *others in read_table("extensions"):
         kinds[name], implied[name] = kind, " ".join(others).split()

@@ -49,9 +49,9 @@ def _description(row: Row) -> str:
 
 
 def _found_by(row: Row) -> list[str]:
-    """Return words by which a search finds a vector instruction, in a list with one text; empty if there are none.
+    """Return a list with one text: words by which a search finds a vector instruction. Return an empty list if there are none.
 
-    The words say how it changes the width of elements, and how it moves them.
+    The words say how the instruction changes the width of elements, and how it moves elements.
     """
     instruction = sample(row)
     parts = [it.part for it in instruction.operands if it.part] if instruction else []
