@@ -35,10 +35,10 @@ class Backwards:
         self._halts, self._last = halts, last
 
     def by_instructions(self, number: int) -> Halt | None:
-        """Go back over `number` instructions. Return None if so many were executed.
+        """Go back over `number` instructions, and return None.
 
-        If fewer were executed, go back to the start of the program, and return a halt with the reason `entry`. Raises Paused if the client
-        ends the movement, and LabError if there is no way back.
+        If fewer instructions were executed, go back to the start of the program, and return a halt with the reason `entry`. Raises Paused if
+        the client ends the movement, and LabError if there is no way back.
         """
         with self._halts.unwatched():
             is_there = self._halts.timeline.back(number, self._halts.client.wants_stop)

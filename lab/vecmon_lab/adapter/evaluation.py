@@ -78,7 +78,7 @@ def evaluate(instant: Instant, frame: Frame, text: str, context: str, is_hex: bo
 
 @dataclass(frozen=True)
 class FrameNames:
-    """The values of names at an instant, in a frame, for the evaluation of expressions."""
+    """The values that names in expressions have in a frame at an instant. The methods are those of `expressions.Names`."""
 
     instant: Instant
     frame: Frame
@@ -116,7 +116,7 @@ def set_expression(instant: Instant, frame: Frame, text: str, value: str) -> Non
 
 
 def completions(instant: Instant, frame: Frame, start: str) -> list[str]:
-    """Return the names that begin with a text, in alphabetical order."""
+    """Return the names of registers, symbols, variables and commands that begin with the text `start`, in alphabetical order."""
     names: Iterable[str] = [*REGISTERS, *(f"v{number}" for number in range(32)), *instant.program.symbols.addresses]
     own = [each.variable.name for each in instant.program.variables]
     return sorted({name for name in [*names, *own, "why", "help"] if name.startswith(start)})

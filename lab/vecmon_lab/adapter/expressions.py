@@ -140,7 +140,7 @@ def evaluate(text: str, names: Names) -> Value:
 
 
 def is_name(text: str) -> bool:
-    """Return whether a text is a name that may have indices and fields after it, or `*` before it."""
+    """Return whether a text is a name, possibly with indices or fields after it or `*` before it, such as `x[2].key`."""
     try:
         node = _parsed(text)
     except LabError:
@@ -149,7 +149,7 @@ def is_name(text: str) -> bool:
 
 
 def name_in(text: str, names: Names) -> tuple[str, Path]:
-    """Return the name in an expression, and the path of the indices, fields and `*` at it. Raises LabError unless `is_name` is true."""
+    """Return the name in an expression, and the path that its indices, fields and `*` make. Raises LabError unless `is_name` is true."""
     name, path = _path(_parsed(text), names)
     if not isinstance(name, _Name):
         raise LabError(f"{text.strip()} isn't a name, as a0, v8[3] or x[2] are")
@@ -277,7 +277,10 @@ def _is_path(node: _Node) -> bool:
 
 
 def _path(node: _Node, names: Names) -> tuple[_Node, Path]:
-    """Return the node inside the indices, fields and `*` of a node, and their path. Raises LabError if an index can't be evaluated."""
+    """Return the innermost node of a node with indices, fields and `*`, and the path that these make.
+
+    Raises LabError if an index can't be evaluated.
+    """
     parts = list[int | str]()
     while True:
         match node:

@@ -53,7 +53,7 @@ class Instant:
     """The state of a program at a stop. After the program has moved or was changed, a new instant is necessary."""
 
     def __init__(self, program: Program, stop: Stop | None, is_due: Callable[[], bool]) -> None:
-        """stop: the stop if the program stopped by itself, otherwise None; is_due: returns whether the client wants long work to end"""
+        """stop: the machine's stop if the program stopped by itself; otherwise None; is_due: returns whether the client wants long work to end"""
         self.program, self._stop, self._is_due = program, stop, is_due
 
     @cached_property
@@ -104,8 +104,8 @@ class Instant:
     def _last(self, earlier: Guest, before: Registers, end: End) -> LastInstruction:
         """Return the last instruction, which is at the program counter of `earlier`.
 
-        earlier: the guest in the state before the instruction, or the present guest after a fault. Its memory has the word of the
-            instruction even if the program has overwritten the word since.
+        earlier: the guest in the state before the instruction, or the present guest after a fault. Its memory has the instruction even if the
+            program has overwritten the instruction since.
         before: the registers of `earlier`; end: how the instruction ended
         """
         guest, now, pc = self.program.guest, self.registers, earlier.pc

@@ -57,7 +57,7 @@ class Shown:
     def variables(self, wanted: Variables) -> list[dict[str, Any]]:
         """Return the rows below a reference, in the protocol's form.
 
-        wanted: the request, with the reference, the index of the first row, the number of rows (0 for all) and the form of numbers
+        wanted: the request. It has the reference, the index of the first row, the number of rows (0 for all) and the form of numbers.
 
         Raises LabError if no scope or value has this reference, or if the index or the number of rows is negative.
         """

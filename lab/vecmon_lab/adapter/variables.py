@@ -63,7 +63,10 @@ class Scope:
 
 
 def scopes_of(instant: Instant, frame: Frame) -> list[Scope]:
-    """Return the scopes of a frame. Only the innermost frame has vector registers, since a function doesn't preserve them for its caller."""
+    """Return the scopes of a frame.
+
+    Only the innermost frame has scopes of vector registers, since a called function doesn't preserve them for its caller.
+    """
     found = list[Scope]()
     own, shared = c_variables(instant, frame)
     if instant.program.variables:

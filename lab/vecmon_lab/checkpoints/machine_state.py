@@ -80,10 +80,11 @@ class Shown:
 class MachineState:
     """The state of a machine, except for the counts of its vector unit.
 
-    users, shown: by the user's digit
-    owner: the user whose state the vector unit holds, or 0
+    users: the state of each present user that follows from the script, by the user's digit
+    shown: the state of each present user that read-only commands show, by the user's digit
+    owner: the digit of the user whose state the vector unit holds; 0 if there is none
     is_dirty: whether the state in the vector unit has changed since it was loaded there
-    last: the user of the last turn
+    last: the digit of the user of the last turn
     """
 
     users: Mapping[str, User]
@@ -133,7 +134,9 @@ def fresh_memory(opening: Opening, user: User) -> dict[int, bytes]:
 
 
 def follow_line(users: dict[str, User], line: str) -> None:
-    """Take up a user's line, which the machine has accepted. users: by digit; the line may add or remove its user"""
+    """Take up a user's line that the machine has accepted. users: the users by digit, to which the line may add its user or from which it
+    may remove its user
+    """
     digit = line[0]
     match words_of(line):
         case ["enter"]:
@@ -149,7 +152,7 @@ def follow_line(users: dict[str, User], line: str) -> None:
 
 
 def pages_of(user: User, images: Mapping[str, pathlib.Path]) -> Iterator[tuple[int, str]]:
-    """Return the address and the permissions of each of a user's pages. images: paths by name"""
+    """Yield the address and the permissions of each of a user's pages. images: the paths of images by name"""
     if user.image:
         segments = (
             (address, rights, size) for address, rights, size, _ in segments_of(images[user.image].read_bytes())

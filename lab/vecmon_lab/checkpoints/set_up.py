@@ -9,7 +9,7 @@ from ..machine.start_state import STACK_POINTER
 from .machine_state import TOUCHING, MachineState
 
 TRACED = 16  # largest number of addresses in a trace
-_GAP = 16  # up to this number of equal bytes between changed ones are written by the same `poke`, so that there are fewer lines
+_GAP = 16  # the most unchanged bytes between changed bytes that one `poke` writes together with them, so that there are fewer lines
 
 Memory = Mapping[int, bytes]
 

@@ -18,7 +18,7 @@ class Account:
 
     @property
     def groups(self) -> Sequence[int] | None:
-        """The additional groups of a process of this user; None for those of the lab's process."""
+        """The additional groups of a process that the user runs; None for the additional groups of the lab's process."""
         return None if self.user is None else ()
 
 

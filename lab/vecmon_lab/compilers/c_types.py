@@ -126,7 +126,7 @@ def shape(entry: "DIE | None") -> tuple[str, list[int]]:
 
 
 def pointed_kind(entry: "DIE | None") -> str:
-    """Return the kind of the numbers that a pointer, or each pointer of an array, points to, in the form of `shape`; "" if there is none.
+    """Return the kind of the numbers that a pointer, or each pointer in an array, points to, such as `i32`; "" if there are no such numbers.
 
     Raises RecursionError for a type that contains itself.
     """

@@ -44,7 +44,7 @@ _GCC = ("-no-pie", "-Wl,--no-relax", "-fno-diagnostics-show-caret", "-fmax-error
 class Choice:
     """Options of a compiler that a page offers by name.
 
-    clang, gcc: the arguments of each compiler for these options
+    name: the name of the options; clang, gcc: the arguments of a clang and of a gcc for these options
     source: the name of the source in its folder; its suffix shows the language
     """
 
@@ -64,7 +64,7 @@ CHOICES = [
 
 @dataclass(frozen=True)
 class Compiler:
-    """A compiler of the system, by the name of its program, such as `clang-19`."""
+    """An installed compiler. name: the name of its program, such as `clang-19`"""
 
     name: str
 
@@ -79,7 +79,10 @@ class Compiler:
         return self.is_clang or _version(self.name) >= MIN_GCC
 
     def title(self, choice: int) -> str:
-        """Return the name of the compiler with the options of this number, for pages, and a note if it lacks vector intrinsics."""
+        """Return the text that pages show for the compiler with some options, with a note if the compiler lacks vector intrinsics.
+
+        choice: the number of the options
+        """
         lacking = "" if self.has_vectors else " (scalar C alone: it has no intrinsics)"
         return f"{self.name} {CHOICES[choice].name}{lacking}"
 

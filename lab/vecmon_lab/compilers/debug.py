@@ -26,7 +26,11 @@ NO_THREADS = "the machine has no threads, and so no _Thread_local variables: use
 
 
 class Segment(NamedTuple):
-    """A segment of memory: its address, permissions and size, and its first bytes in hexadecimal; the others are 0."""
+    """A segment of memory.
+
+    rights: the program's permissions, such as `rw`; size: the number of bytes
+    data: the first bytes in hexadecimal digits; all other bytes of the segment are 0
+    """
 
     address: int
     rights: str
@@ -93,7 +97,7 @@ def missing_start_code(path: pathlib.Path) -> list[str]:
 
 
 def _parts(elf: "ELFFile", symbols: Sequence[tuple[str, int]]) -> Image:
-    """Return the parts of an open image with these symbols."""
+    """Return the parts of an open image. symbols: the names and the addresses of the image's symbols"""
     rows, stops = _rows(elf)
     code = [section["sh_addr"] for section in elf.iter_sections() if section["sh_flags"] & _CODE]
     return {
@@ -136,5 +140,5 @@ def _rows(elf: "ELFFile") -> tuple[list[LineRow], dict[str, list[int]]]:
 
 
 def _is_own(line: str) -> bool:
-    """Return whether a line such as `source.c:12` is one of the source."""
+    """Return whether a line belongs to the source. line: the file and the number, such as `source.c:12`"""
     return line.rpartition(":")[0] in OWN_SOURCES

@@ -41,7 +41,7 @@ class Layout:
     entry: "DIE"
 
     def declaration(self, name: str = "") -> str:
-        """Return the declaration of a name with this type, such as `struct pair *x`; without a name, only that of the type."""
+        """Return the declaration of a name with this type in C, such as `struct pair *x`. If the name is "", return only the type."""
         return self._read(lambda: " ".join(declaration(self.entry, name).split()), name)
 
     @cached_property

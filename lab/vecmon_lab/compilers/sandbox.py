@@ -99,7 +99,7 @@ def run_sandboxed(words: Sequence[str], text: str, account: Account = OWN) -> by
 
 
 async def run_in_sandbox_async(words: Sequence[str], text: str, account: Account = OWN) -> bytes:
-    """As `run_sandboxed`, without blocking an event loop."""
+    """Do the same as `run_sandboxed`, without blocking the event loop."""
     files = await asyncio.to_thread(_sandbox, Compiler(words[0]), account)
     inside = _INSIDE_AS_ROOT if _is_of_root(account) else _INSIDE
     return await run_inside([*files, *inside, *MODULE, *words], text, pathlib.Path("/"), _environment(), account)

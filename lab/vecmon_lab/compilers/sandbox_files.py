@@ -163,7 +163,7 @@ def _merged(path: str) -> str:
 
 
 def _folders(paths: Iterable[str]) -> Iterator[str]:
-    """Yield the arguments that make the folders that contain files. All users may enter these folders."""
+    """Yield the arguments of bwrap that make the folders of files in the sandbox, which all users may enter. paths: the paths of the files"""
     folders = {str(folder) for path in paths for folder in pathlib.PurePath(path).parents} - {"/"}
     for folder in sorted(folders):
         yield from ("--perms", "755", "--dir", folder)

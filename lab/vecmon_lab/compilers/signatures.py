@@ -23,8 +23,8 @@ _FUNCTION, _PARAMETER, _MORE = "DW_TAG_subprogram", "DW_TAG_formal_parameter", "
 class Declared(NamedTuple):
     """A parameter or a result of a function.
 
-    declaration: in C, such as `uint32_t key`
-    integer: the type, or None if it isn't an integer, an enumeration or a pointer
+    declaration: the declaration in C, such as `uint32_t key`; for a result, only the type
+    integer: the type; None if it isn't an integer, an enumeration or a pointer
     """
 
     declaration: str
@@ -106,7 +106,7 @@ def _functions(scope: "DIE") -> Iterator["DIE"]:
 
 
 def _signature(entry: "DIE") -> Signature:
-    """Return the signature of a function's entry. An inlined copy may lack parameters, so those of its origin are used."""
+    """Return the signature of a function's entry. Since the entry of a copy may lack parameters, the parameters of its origin are used."""
     origin = entry_at(entry, "DW_AT_abstract_origin") or entry
     declared = entry_at(origin, "DW_AT_specification") or origin
     result = entry_at(declared, "DW_AT_type")
@@ -130,5 +130,5 @@ def _type_of(entry: "DIE") -> "DIE | None":
 
 
 def _declared(kind: "DIE | None", name: str) -> Declared:
-    """Return a parameter of this type and name, or a result, whose name is ""."""
+    """Return a parameter or a result. kind: the entry of its type; None for void; name: the parameter's name; "" for a result"""
     return Declared(" ".join(declaration(kind, name).split())[:NAME_LETTERS], integer(kind))

@@ -29,12 +29,14 @@ _FUNCTION, _BLOCKS = "DW_TAG_subprogram", ("DW_TAG_inlined_subroutine", "DW_TAG_
 class Variable(NamedTuple):
     """A variable of the source.
 
-    declaration: in C, such as `int32_t x[37]`
-    element: the kind of its numbers, such as `i32`, or "" if it has none; counts: the dimensions of an array
-    function: the function that declares it, perhaps an inlined one; "" for a global variable
-    scopes: the ranges of addresses in which it is visible, each with its start and the address after its end; none for all addresses
-    locations: its places. At an address that none of them covers, the compiler has optimized the variable out.
-    target: the kind of the numbers that a pointer points to, such as `i32`; "" if that is unknown
+    declaration: the declaration in C, such as `int32_t x[37]`
+    element: the kind of the variable's number, or of the numbers in an array, such as `i32`; "" if there are none
+    counts: the dimensions of an array; empty for other variables
+    function: the name of the function that declares the variable, which may be inlined; "" for a global variable
+    scopes: the ranges of addresses of code in which the variable is visible, each with its first address and the address after its end. A
+        variable without ranges is visible everywhere.
+    locations: the places of the variable. At an address of code that no location covers, the compiler has optimized the variable out.
+    target: the kind of the numbers that a pointer points to, such as `i32`; "" if there are none
     """
 
     name: str
@@ -60,7 +62,7 @@ def variables_of(elf: "ELFFile") -> list[Variable]:
 
 
 def typed_variables(elf: "ELFFile", is_own: Callable[[str], bool], has_frames: bool = False) -> list[TypedVariable]:
-    """Return at most MAX_VARIABLES variables. If the debug data is damaged, return only those before the damage.
+    """Return the variables in the debug data of an image, at most MAX_VARIABLES. If the data is damaged, return the variables before the damage.
 
     is_own: is called with the name of a source as the compiler got it; returns whether this source's variables are wanted
     has_frames: whether locations may have FRAME in place of a register

@@ -114,7 +114,7 @@ class Target:
         self._is_extended = False  # whether gdb can run the program again
         self._guest, self._link, self._timeline = guest, link, self._new_timeline(guest)
         self._last = BEGUN  # the last stop
-        self._exit = ""  # the answer if gdb resumes a program that has exited
+        self._exit = ""  # the reply if gdb resumes a program that is at its end; "" for a program that isn't
 
     def _new_timeline(self, guest: Guest) -> Timeline:
         """Return a timeline of a guest; gdb prints the progress of its work."""

@@ -1,8 +1,8 @@
 """The environments in which golden programs run, and the code that executes the instructions that they test (`Harness`).
 
 The machine assembles this code from the sources in this folder. A golden program has a page for the tested instruction, two pages of memory,
-the code with its data, and after them a list of cases, or of the words that the program executes. An `Environment` has the code's address,
-and a base that is added to the addresses of the instruction's page and of the memory.
+and the code with its data. After them comes a list of cases, or of the words that the program executes. An `Environment` has the code's
+address, and a base that is added to the addresses of the instruction's page and of the memory.
 """
 
 import functools

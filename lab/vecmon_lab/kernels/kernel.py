@@ -164,12 +164,13 @@ class Kernel(contextlib.AbstractContextManager["Kernel"]):
         it is a ctypes integer such as `ctypes.c_uint32(7)`. An array that isn't `Placed` ends at the end of a page. Arrays that share
         memory also share it in the call.
 
-        policy: of agnostic elements, `keep` or `ones`; `both` calls the function twice, and compares the results; `open`
-        makes choices that the standard leaves open by the seed
-        ticks: the most that the call may take; above 1,000,000, rounded up to a multiple of 1,000. A call that writes more than 1,024
-        bytes may take more.
-        seed: of the policy `open`, an integer from 0, which chooses nothing
-        counted: whether instructions are counted; with the policy `both`, those under `keep`
+        symbol: the function's name
+        policy: the policy for agnostic elements, `keep` or `ones`; `both` calls the function under each, and compares the results; `open`
+            makes choices that the standard leaves open by the seed
+        ticks: the largest number of ticks that the call may take; above 1,000,000, it is rounded up to a multiple of 1,000. A call that
+            writes more than 1,024 bytes may take more ticks.
+        seed: the seed of the policy `open`, an integer from 0, which chooses nothing
+        counted: whether instructions are counted; with the policy `both`, the instructions of the call under `keep` are counted
 
         Raises CallStopped, PoliciesDiffer, and LabError for arguments that don't fit the function.
         """
@@ -187,11 +188,11 @@ class Kernel(contextlib.AbstractContextManager["Kernel"]):
         return _result(call, first, counts)
 
     def steps(self, symbol: str, *arguments: Argument, policy: str = "keep", most: int = 100_000) -> Iterator[Step]:
-        """Yield the instructions of a call with the same arguments as for `call`, up to its return or its stop. Raises LabError.
+        """Yield the instructions of a call, up to the call's return or stop. Raises LabError. The arguments are those of `call`.
 
         Each instruction is executed when the iterator is advanced. Then `step.why("v8", 5)` says why an element has its value.
 
-        most: the greatest number of instructions
+        most: the largest number of instructions
         """
         call = self._call(symbol, arguments)
         self._renew()
@@ -227,12 +228,12 @@ class Kernel(contextlib.AbstractContextManager["Kernel"]):
                 else "no symbols: link it without -s, and don't strip it"
             )
             raise LabError(f"{self._path} has {lacking}")
-        # a copy that gcc specialised, as `sum.constprop.0`, has other parameters than its source
+        # A copy that gcc has specialised, such as `sum.constprop.0`, has other parameters than the function in the source.
         signature = None if "." in symbol else self._signatures.at(self._symbols.addresses[symbol])
         return call_of(symbol, arguments, signature)
 
     def _renew(self, quantum: int | None = None) -> None:
-        """Start another session if the script of this one is long, if its program may run, or if its slices have other ticks.
+        """Start another session if the present one has a long script, a program that may run, or slices of another number of ticks.
 
         quantum: the number of ticks of a slice; None to accept any number
         """
@@ -304,7 +305,7 @@ class Kernel(contextlib.AbstractContextManager["Kernel"]):
             if stop or guest.pc == RETURN:
                 return stop, found
             guest.output()
-            guest.ask(*before)  # anew, since these instructions took an unknown number of ticks
+            guest.ask(*before)  # start the call anew, since its first instructions took an unknown number of ticks
         return guest.go(ticks), guest.ask(*looks)
 
     def _stopped(self, what: str, stop: Stop | None, layout: Layout) -> CallStopped:

@@ -96,8 +96,7 @@ class Analysis:
     def instruction(self, statement: Statement) -> VectorInstruction | None:
         """Return the vector instruction of a statement, decoded under the vector type in force before it.
 
-        Return None if the statement isn't a vector instruction, or if the vector type is unknown or vill, or differs between the paths to
-        the statement.
+        Return None if the statement isn't a vector instruction, or if the vector type is unknown, vill, or different on the paths to it.
         """
         state, word = self.state(statement), self.words.get(statement.address)
         if state is None or state.vtype is None or word is None or state.vtype >> 63:

@@ -79,7 +79,7 @@ def read_limited(reader: str, text: str, vecmon: pathlib.Path) -> Program:
 
 
 def encoded(text: str) -> bytes:
-    """Return the input of the separate process. text: the source"""
+    """Return the input of the separate process for a source. text: the source"""
     return text.encode("utf-8", "surrogatepass")
 
 

@@ -115,7 +115,7 @@ def _other_names() -> frozenset[str]:
 
 
 def _stand_in(statement: Statement) -> int | None:
-    """Return the word that stands for an instruction that the machine refuses; None if nothing is known about the instruction.
+    """Return the word that replaces an instruction that the machine refuses; None if nothing is known about the instruction.
 
     A vector instruction that can change neither the vector type nor a scalar register is replaced by a nop.
     """

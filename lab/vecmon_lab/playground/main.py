@@ -36,7 +36,7 @@ STAND_INS: dict[str, list[str]] = {
     "pdb": [],
     "zlib": ["decompress", "decompressobj"],
 }
-"""Modules that pyelftools 0.29 imports, and their functions: those of zlib are for compressed sections, the others unused."""
+"""Functions by module that pyelftools 0.29 imports. It calls those of zlib only for compressed sections, and the others never."""
 STARTS, BY_NAME = "starts", "exercises"
 
 _desk: PageDesk | None = None

@@ -34,7 +34,7 @@ from .page_tries import PageTries
 
 MOST_LINES = 250_000  # largest number of the machine's lines that are executed again; a page has fewer, since checkpoints shorten them
 SCRIPT, SET_UP = "A.script", "A.set_up"  # the machine's lines, and the number of first lines that set it up
-STOP = "A.stop"  # the last stop when these first lines were made, unless something had changed since
+STOP = "A.stop"  # the program's last stop when the first lines were made, unless something had changed after the stop
 QUANTUM = "A.quantum"  # the ticks of a slice, if a class had another number than this page
 IMAGES, IMAGE = "images", "A1.image"
 IMAGE_BYTES, MOST_IMAGES = 1 << 20, 8
@@ -144,7 +144,7 @@ class PageDesk(Desk):
         self._tries.add(name, done)
 
     def _kept_images(self, texts: TextStore) -> dict[str, pathlib.Path]:
-        """Make files of the saved images; return their paths by name. Damaged images are set aside."""
+        """Make files of the saved images in `texts`; return the paths of the files by the images' names. Damaged images are set aside."""
         images = dict[str, pathlib.Path]()
         for file in sorted(file for file, _ in texts.files(f"{IMAGES}/*")):
             name = file.removeprefix(f"{IMAGES}/")
@@ -264,7 +264,7 @@ class PageDesk(Desk):
             self._take_image(image)
 
     def _join_files(self, other: TextStore) -> None:
-        """Save another tab's images and damaged texts, unless there are texts of these names."""
+        """Save another tab's images and damaged texts, unless this page has texts with the same names."""
         names = [name for pattern in (f"{IMAGES}/*", "damaged/*") for name, _ in other.files(pattern)]
         for name in names:
             if not self.texts.read_text(name):

@@ -87,7 +87,10 @@ def first_stop(
 
 
 def _stepped(machine: PrivateMachine, unit: int, number: int, breaks: Collection[int]) -> list[str]:
-    """Execute `step unit` a number of times while breakpoints are set; return the answers of these steps."""
+    """Execute the command `step` `number` times while breakpoints are set; return the answers to these commands.
+
+    unit: the number of instructions of each `step`; breaks: the addresses of the breakpoints
+    """
     digit = machine.digit
     places = [f"{address:x}" for address in breaks]
     before, after = ([f"{digit} {command} {place}" for place in places] for command in ("break", "unbreak"))
@@ -106,8 +109,9 @@ def _first_irregular(answers: Sequence[str], breaks: Collection[int]) -> int | N
 def count_to_ticks(legs: Sequence[Leg], place: int, most: int, quantum: int, reach: Reach, open_at: Open) -> Parts:
     """Set the count of a leg that ended after a known number of ticks. It stays None if it is above `most`.
 
-    Each instruction takes one tick, except vector loads and stores. If the leg has such instructions, the instructions of its first
-    few ticks are counted, and then those of ever more ticks. Each count is searched near a prediction from the previous rate.
+    Each instruction takes one tick, except vector loads and stores. If the leg has vector loads or stores, the instructions of its first few
+    ticks are counted, and then repeatedly those of more ticks. Each count is searched near a prediction from the last number of
+    instructions per tick.
 
     legs, place: all legs, and the index of the leg to count
     most: the largest number of instructions to count
@@ -138,9 +142,9 @@ def count_to_ticks(legs: Sequence[Leg], place: int, most: int, quantum: int, rea
 def _after(
     legs: Sequence[Leg], place: int, ticks: int, quantum: int, open_at: Open
 ) -> Generator[None, None, tuple[Signature, bool]]:
-    """Return the registers after a number of a leg's ticks, and whether the last slice cut an instruction.
+    """Return the registers after the first `ticks` ticks of a leg, and whether the last slice cut a vector load or store.
 
-    A cut instruction is completed before the registers are read.
+    The rest of a cut instruction is executed before the registers are read. place: the index of the leg
     """
     machine, slices, leg = open_at(place), ticks // quantum, legs[place]
     try:
@@ -163,7 +167,7 @@ def _after(
 
 
 def _find(place: int, expected: int, window: int, reach: Reach, wanted: Signature) -> Generator[None, None, int | None]:
-    """Return the count after which the registers are `wanted`; None if there is none.
+    """Return the number of a leg's instructions after which the registers are `wanted`; None if there is none.
 
     The counts that differ from `expected` by at most `window` are tried. If several fit, the one nearest to `expected` is returned.
     """

@@ -143,7 +143,7 @@ class Intervals:
         last.count = (last.count or 0) + done
 
     def _slices(self, ticks: int, has_stopped: bool) -> None:
-        """Add slices that have this number of ticks together. has_stopped: whether the program stopped by itself in them"""
+        """Add slices. ticks: the number of ticks of all of them; has_stopped: whether the program stopped by itself during the slices"""
         last = self._last()
         if ticks == 0:
             return

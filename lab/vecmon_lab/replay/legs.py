@@ -123,7 +123,7 @@ class Legs:
             leg.stop, self.is_running = stop, False
 
     def _restart(self, lines: list[str]) -> None:
-        """Start the history anew with these lines. Without lines, the user has left, and there are no legs."""
+        """Start the history anew. lines: the lines of the first leg; if there are none, the user has left, and there are no legs"""
         self.legs = [Leg(lines)] if lines else []
         self.number += 1
         self._breaks, self.is_running, self.written = frozenset(), False, 0
@@ -153,7 +153,7 @@ class Legs:
         last.count, last.ticks, last.breaks = None, 0, self._breaks
 
     def _step(self, number: int, reply: object) -> None:
-        """Take up a `step` of a number of instructions. reply: its answer, as `answers.read` returns it"""
+        """Take up a `step` line. number: the number of instructions in the line; reply: the answer, as `answers.read` returns it"""
         if isinstance(reply, Position):
             last = self._last()
             last.count = (last.count or 0) + reply.number

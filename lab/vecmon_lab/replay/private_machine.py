@@ -28,7 +28,7 @@ _FOLLOWED = ("enter", "load", "map", "vset")  # commands that change the user's 
 class ReplayDiffers(LabError):
     """A private machine behaves differently from the user's machine.
 
-    offset: the number of the leg's instructions that were executed before the difference, as far as known
+    offset: the number of the leg's instructions that were executed before the difference; it may be too small
     """
 
     def __init__(self, message: str, offset: int = 0) -> None:
@@ -43,7 +43,7 @@ class PrivateMachine:
     """
 
     def __init__(self, session: Session, legs: Legs, saved: SavedStates) -> None:
-        """session: on a new machine; legs: the user's legs; saved: the saved states of these legs, which the machine adds to"""
+        """session: a session on a new machine; legs: the user's legs; saved: receives the states that the machine saves"""
         self.session, self.place, self.output = session, Place(), bytearray()
         self.executed = 0  # the cost of the replays, in instructions; each line counts as `_LINE_COST` instructions
         self.is_used_up = False  # whether the machine may go on differently from the user's machine
@@ -106,7 +106,7 @@ class PrivateMachine:
         return answers
 
     def take_output(self) -> None:
-        """Take the program's output with `out`, which empties the output buffer."""
+        """Append the program's new output to `output` by the command `out`, which empties the output buffer."""
         self.do([f"{self.digit} out"])
 
     @property

@@ -35,7 +35,7 @@ class Halt(NamedTuple):
 
 
 class Search:
-    """The accesses of a run to watched memory, and the instructions where it reaches breakpoints.
+    """Searches a run for its halts: accesses to watched memory, and instructions that have breakpoints.
 
     initial_state: the state in which the run starts, with all of its memory
     watches: watched memory
@@ -114,13 +114,18 @@ class Search:
         return (ticks, done, changes) if covers else self._covering(2 * ticks, count)
 
     def _needs_log(self, done: Counts) -> bool:
-        """Return whether a log shows more halts of this run: accesses, or breakpoints that were reached."""
+        """Return whether a log of the instructions may show more halts of a run: accesses, or breakpoints that the run has reached.
+
+        done: the run's counts
+        """
         return bool(self._accessed) or any(b"%016x" % place.address in self._breaks for place in done.places)
 
     def _changes(self, ticks: int, read: Callable[[BinaryIO], list[Halt]]) -> tuple[Counts, list[Halt], int]:
         """Run a number of ticks while changes of watched memory are recorded.
 
-        read: reads the halts from the record. Returns the run's counts, these halts, and the number of bytes that the program wrote.
+        read: reads the record, and returns halts in it
+
+        Returns the run's counts, the result of `read`, and the number of bytes that the program wrote.
         """
         words = [word for watch in self._changed for place in self._places(watch) for word in ("--watch", place)]
         return self._run(ticks, [*words, "--changes"] if words else [], read if words else _nothing)
@@ -141,9 +146,9 @@ class Search:
         """Run a number of ticks, with a record unless `words` is empty.
 
         words: the recorder's arguments for the record
-        read: reads the halts from the record
+        read: reads the record, and returns halts in it
 
-        Returns the run's counts, these halts, and the number of bytes that the program wrote.
+        Returns the run's counts, the result of `read`, and the number of bytes that the program wrote.
         """
         sizes = list[int]()
         end, other = os.pipe()

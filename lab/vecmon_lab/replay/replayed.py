@@ -36,7 +36,7 @@ class Replayed:
 
         user: the user's image and pages; None if states can't be saved
 
-        Returns the intervals into which the saved states divide these instructions. Raises Interrupted.
+        Returns the intervals into which the saved states divide the executed instructions. Raises Interrupted.
         """
         ticks, whole, left = interval.ticks, max(interval.count or 0, 1), count
         made = [replace(interval, count=0, ticks=0, has_stopped=False)]

@@ -28,7 +28,7 @@ Report = Callable[[Advance], object]
 
 
 class Timeline:
-    """The states of a guest, which is at the last one.
+    """The states of a guest's run. The guest itself has the last state.
 
     watches: watched memory. `go`, `step`, `back` and `back_to_halt` stop at an instruction that accesses or changes it, before the
     instruction executes. When they go back, they stop after such an instruction. gdb expects this for RISC-V.
@@ -79,17 +79,17 @@ class Timeline:
         return count
 
     def at(self, number: int, is_interrupted: Callable[[], bool] = never) -> bool | None:
-        """Go back to the state after `number` instructions. Returns and raises as `back` does."""
+        """Go back to the state after the run's first `number` instructions. Returns and raises as `back` does."""
         try:
             return self.back(self.count(is_interrupted) - number, is_interrupted)
         except Interrupted:
             return None
 
     def back(self, number: int = 1, is_interrupted: Callable[[], bool] = never) -> bool | None:
-        """Go back by a number of instructions; return whether so many had executed.
+        """Go back by a number of instructions; return True.
 
-        If fewer had executed, the guest goes to the first state. Returns None if the call is interrupted; then the guest doesn't move. Raises
-        LabError.
+        If fewer instructions have executed, the guest goes to the first state, and False is returned. If the call is interrupted, the guest
+        doesn't move, and None is returned. Raises LabError.
         """
         before, self.hit = self._watched_values(), None
         is_there = self._go_back(number, is_interrupted)
@@ -119,7 +119,7 @@ class Timeline:
             replay.close()
 
     def back_to_halt(self, breaks: Sequence[int], is_interrupted: Callable[[], bool]) -> bool | None:
-        """As `back_to_halt_if_any`, but go back to the start of the run if there is no such place; then return False. Raises LabError."""
+        """Do the same as `back_to_halt_if_any`, but go back to the start of the run, and return False, if there is no such place."""
         is_there = self.back_to_halt_if_any(breaks, is_interrupted)
         if is_there is False and not self.run.is_at_start:
             self.run.control = Control()
@@ -146,7 +146,7 @@ class Timeline:
         return True
 
     def _go_back(self, number: int, is_interrupted: Callable[[], bool]) -> bool | None:
-        """As `back`, without regard to watched memory. At the first state, the guest keeps changes that lines have made there."""
+        """Do the same as `back`, without regard to watched memory. In the first state, changes that lines have made there aren't undone."""
         self.run.control = self._control(is_interrupted, "going back")
         if number <= 0 or self.run.is_at_start:
             return number <= 0
@@ -164,7 +164,7 @@ class Timeline:
         self.run.take_over(replay)
 
     def _go_far(self, breaks: Sequence[int], control: Control) -> Stop | None:
-        """As `go`, with watched memory: the recorder determines how far the program may run.
+        """Do the same as `go` for a program with watched memory. The recorder determines how far the program may run.
 
         breaks: the addresses of breakpoints. Raises Interrupted.
         """

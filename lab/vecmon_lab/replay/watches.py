@@ -30,7 +30,7 @@ class Watch:
 def accessed(watches: Sequence[Watch], guest: Guest, word: int) -> Watch | None:
     """Return the first of `watches` whose bytes a guest's next instruction accesses, in the way that the watch's kind says.
 
-    word: the word of the next instruction. All active elements count, also those that aren't accessed because the instruction faults or is a
+    word: the next instruction. All active elements count, also those that aren't accessed because the instruction faults or is a
     fault-only-first load. Returns None if the instruction accesses no watched bytes.
     """
     return _met(watches, word, lambda: _spans(guest, word))
@@ -47,7 +47,7 @@ def logged_access(watches: Sequence[Watch], line: bytes) -> Watch | None:
 def _met(watches: Sequence[Watch], word: int, spans: Callable[[], Iterable[Span]]) -> Watch | None:
     """Return the first of `watches` whose bytes an instruction accesses, in the way that the watch's kind says; None if there is none.
 
-    word: the word of the instruction; spans: returns the addresses that the instruction accesses, each with a number of bytes
+    word: the instruction; spans: returns the addresses that the instruction accesses, each with a number of bytes
     """
     candidates = [watch for watch in watches if word & 0x7F in ACCESSES[watch.kind]]
     found = list(spans()) if candidates else []

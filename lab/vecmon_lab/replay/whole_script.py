@@ -186,7 +186,7 @@ class WholeScript:
 
     def _note(self, size: int, lines: Sequence[str], answers: Sequence[str]) -> None:
         """Note lines and their answers that were added to the guest's script. size: the number of bytes of the script before them"""
-        while self._new and self._new[-1][0] >= size:  # the guest has gone back to before these lines
+        while self._new and self._new[-1][0] >= size:  # the guest has gone back, and the script has lost these lines
             self._new.pop()
         for line, answer in zip(lines, answers):
             self._new.append((size, line, answer))
