@@ -85,9 +85,7 @@ class Breakpoints:
         self.data: Sequence[DataStop] = ()
         self._check, self._address_of, self._changed = check, address_of, changed
         self._program: Program | None = None
-        self._found_ones = dict[
-            str, Sequence[Breakpoint]
-        ]()  # by kind, before the machine's addresses are given to them
+        self._found_ones = dict[str, Sequence[Breakpoint]]()  # by kind, whether or not the machine has room for them
         # By kind. A breakpoint for which the machine has no room has a problem.
         self._all = dict[str, Sequence[Breakpoint]]()
         self._numbers = itertools.count(1)

@@ -55,7 +55,7 @@ class Inspection:
         return {"stackFrames": rows[wanted.start_frame : end], "totalFrames": len(frames)}
 
     def _frame(self, number: int, frame: Frame) -> Body:
-        """Return a frame in the protocol's form. number: 1 for the innermost frame"""
+        """Return a frame in the protocol's form. number: the frame's number, 1 for the innermost frame"""
         body: Body = {"id": number, "name": frame.name or f"{frame.call.address:#x}", "column": 0, "line": 0}
         body["instructionPointerReference"] = f"{frame.call.address:#x}"
         line = self._debuggee.line_fields(frame.line, "source") if frame.line else {"presentationHint": "subtle"}

@@ -83,7 +83,7 @@ def image_of(path: pathlib.Path) -> Image:
 
 
 def missing_start_code(path: pathlib.Path) -> list[str]:
-    """Return a sentence for each thing that an image needs before `main` and the runtime doesn't do.
+    """Return a sentence for each thing that has to be done before the image's `main`, but isn't done by the lab's runtime.
 
     Raises OSError, and the exceptions of pyelftools.
     """

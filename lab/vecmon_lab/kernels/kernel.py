@@ -169,7 +169,7 @@ class Kernel(contextlib.AbstractContextManager["Kernel"]):
             makes choices that the standard leaves open by the seed
         ticks: the largest number of ticks that the call may take; above 1,000,000, it is rounded up to a multiple of 1,000. A call that
             writes more than 1,024 bytes may take more ticks.
-        seed: the seed of the policy `open`, an integer from 0, which chooses nothing
+        seed: the seed of the policy `open`, an integer of at least 0; with the seed 0, nothing is chosen
         counted: whether instructions are counted; with the policy `both`, the instructions of the call under `keep` are counted
 
         Raises CallStopped, PoliciesDiffer, and LabError for arguments that don't fit the function.

@@ -63,7 +63,7 @@ class PageTries:
             self.add(name, self._exercises.with_case_names(name, done))
 
     def _saved(self, texts: TextStore, name: str) -> dict[str, str]:
-        """Return the texts of the tries at an exercise in a store, by their names."""
+        """Return the texts of the tries at an exercise in a store, by the texts' names in the store. name: the exercise"""
         files = {file for file, _ in texts.files(f"{ANSWERS}/{self._seat}.{name}.*.json")}
         numbered = (self._file(name, number) for number in range(1, MAX_TRIES + 1))
         return {file: texts.read_text(file) for file in numbered if file in files}
