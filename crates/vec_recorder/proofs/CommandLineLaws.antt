@@ -53,9 +53,9 @@ refused_by c arguments e (Err fault) is fails given =
 
 -- values that are equal field by field
 pub arguments_alike : (w : RunArguments) (policy ticks : Option Text) (memory : List Text) (registers counts : Option Text) (watch : List Text)
-    (changes log from to seed kinds open_from open_to open_elements image : Option Text) → policy ≡ w.policy → ticks ≡ w.ticks → memory ≡ w.memory
+    (changes log from to seed kinds open_from open_to open_elements chosen image : Option Text) → policy ≡ w.policy → ticks ≡ w.ticks → memory ≡ w.memory
     → registers ≡ w.registers → counts ≡ w.counts → watch ≡ w.watch → changes ≡ w.changes → log ≡ w.log → from ≡ w.from → to ≡ w.to → seed ≡ w.seed → kinds ≡ w.kinds
-    → open_from ≡ w.open_from → open_to ≡ w.open_to → open_elements ≡ w.open_elements → image ≡ w.image
+    → open_from ≡ w.open_from → open_to ≡ w.open_to → open_elements ≡ w.open_elements → chosen ≡ w.chosen → image ≡ w.image
     → record {
       policy = policy;
       ticks = ticks;
@@ -72,7 +72,8 @@ pub arguments_alike : (w : RunArguments) (policy ticks : Option Text) (memory : 
       open_from = open_from;
       open_to = open_to;
       open_elements = open_elements;
+      chosen = chosen;
       image = image;
     } ≡ w
-arguments_alike w policy ticks memory registers counts watch changes log from to seed kinds open_from open_to open_elements image p t m r n v c l f u s k a b e i =
-    rw p (rw t (rw m (rw r (rw n (rw v (rw c (rw l (rw f (rw u (rw s (rw k (rw a (rw b (rw e (rw i refl)))))))))))))))
+arguments_alike w policy ticks memory registers counts watch changes log from to seed kinds open_from open_to open_elements chosen image p t m r n v c l f u s k a b e h i =
+    rw p (rw t (rw m (rw r (rw n (rw v (rw c (rw l (rw f (rw u (rw s (rw k (rw a (rw b (rw e (rw h (rw i refl))))))))))))))))

@@ -1,11 +1,14 @@
 -- The counts of a run that starts with empty rows, its records, and the files of its initial machine
-use Rattle.std.proofs.Common.{◌≡◌, ◌∙◌, ◌<◌, ◌+◌, ◌++◌, [], ◌∷◌, ℕ, Bool, true, false, List, ap, ap₂, arith, drop, length, refl, subst, sym, take, Option, Result, Ok, Err, flat_map}
+use Rattle.std.proofs.Common.{◌≡◌, ◌∙◌, ◌<◌, ◌+◌, ◌++◌, [], ◌∷◌, ℕ, zero, suc, Bool, true, false, List, ap, ap₂, append-nil, arith, drop, length, refl, subst, sym, take, Option, Result, Ok, Err, flat_map}
 use Rattle.std.specs.Prelude.{IfOk, IsPermutation, ◌%◌, ◌^◌, ⊤, if◌then◌else◌}
 use Rattle.std.specs.List.{slice_index_or, sum_by}
 use Rattle.std.proofs.lemmas.List.Sums.{sum_by-cons}
 use Rattle.std.proofs.lemmas.List.{drop_all, drop_more}
 use Rattle.std.proofs.lemmas.List.Sorted.{sum_by-IsPermutation}
 use Rattle.clap.specs.Walk.{Text}
+use Rattle.choice_log.specs.ChoiceLines.{choices_from}
+use Rattle.choice_log.specs.Listed.{IsListed}
+use Rattle.choice_log.specs.declared.choice_log.ChoiceLog.{ChoiceLog}
 use Rattle.commit_log.specs.Logged.{IsLogged, logged_from}
 use Rattle.commit_log.specs.declared.log.Log.{Log}
 use Rattle.commit_log.specs.declared.log.Window.{Window}
@@ -17,6 +20,7 @@ use Rattle.memory_changes.specs.declared.place.Place.{Place}
 use Rattle.memory_changes.specs.Recorded.{IsRecorded}
 use Rattle.memory_changes.specs.declared.changes.Changes.{Changes}
 use Rattle.memory_changes.proofs.Lists.{first_more}
+use Rattle.open_choices.specs.declared.seeds.Seed.{Seed}
 use Rattle.recording.specs.Classes.{class_of}
 use Rattle.recording.specs.Machines.{state_of}
 use Rattle.recording.specs.Runs.{is_counted, second_key, once_more, ran_by, share, shares, word_of as found_word}
@@ -169,8 +173,27 @@ log_printed took more first new file mid after window found printed last sink_is
     subst (λ f. took f (logged_from window 0 found ++ last) after) sink_is
     (more first.sink mid after (logged_from window 0 found) last written (subst (λ (l : List ℕ). took mid l after) last_is end))
 
+-- ---- choices
+
+-- no byte of none
+none_of : (n : ℕ) → ◌≡◌ {A = List ℕ} (take n []) []
+none_of zero = refl
+none_of (suc n) = refl
+
+-- the lines of the choices, and then none
+pub choices_printed : {F : Type 0} (took : F → List ℕ → F → Type 0) → ((a b c : F) (xs ys : List ℕ) → took a xs b → took b ys c → took a (xs ++ ys) c)
+    → (first new : ChoiceLog F) (file after : F) (seed : Seed) (found : List HartState) (n : ℕ) → first.sink ≡ file → first.seed ≡ seed → first.number ≡ 0
+    → IsListed took first found new → took new.sink (take n []) after → took file (choices_from seed 0 found) after
+choices_printed took more first new file after seed found n sink_is seed_is number_is listed end =
+    let lines : took first.sink (choices_from seed 0 found) new.sink =
+    let lines = listed.lines in rw (seed_is, number_is) at lines in
+    let none : choices_from seed 0 found ++ take n [] ≡ choices_from seed 0 found =
+    ap (λ (l : List ℕ). choices_from seed 0 found ++ l) (none_of n) ∙ append-nil (choices_from seed 0 found) in
+    subst (λ f. took f (choices_from seed 0 found) after) sink_is
+    (subst (λ (l : List ℕ). took first.sink l after) none (more first.sink new.sink after (choices_from seed 0 found) (take n []) lines end))
+
 -- a run, whatever is said of it
-pub any_run : (file_bytes : Text → Option (List ℕ)) (arguments : List Text) (Ran : (ℕ → HartState → HartState) → ℕ → List Place → Window → HartState → Type 0) → Recorded file_bytes arguments Ran
+pub any_run : (file_bytes : Text → Option (List ℕ)) (arguments : List Text) (Ran : Option Seed → ℕ → List Place → Window → HartState → Type 0) → Recorded file_bytes arguments Ran
     → Recorded file_bytes arguments (λ _ _ _ _ _. ⊤)
 any_run file_bytes arguments Ran recorded =
     let by = recorded.run in

@@ -69,6 +69,20 @@ module _ {K : Type 0} (took : K → List ℕ → K → Type 0) (next : ℕ → H
   widened before after (Ok x) wider of = tt
   widened before after (Err e) wider of = record { status = of.status; first = of.first; cause = wider of.cause }
 
+  -- the same of a run that may not have started
+  pub widened_or : {T O Old : Type 0} (before after : K) (old new : O) (r : Result T ProgramFault) → (Old → Cause)
+      → IfErr r (λ fault. IsUnstarted took before after old new fault ⊎ IsStopped took next ticks s before after Old fault)
+      → IfErr r (λ fault. IsUnstarted took before after old new fault ⊎ IsStopped took next ticks s before after Cause fault)
+  widened_or before after old new (Ok x) wider of = tt
+  widened_or before after old new (Err e) wider (inl none) = inl none
+  widened_or before after old new (Err e) wider (inr of) = inr (record { status = of.status; first = of.first; cause = wider of.cause })
+
+  -- the same of a run that started
+  pub widened_in : {T O Old : Type 0} (before after : K) (old new : O) (r : Result T ProgramFault) → (Old → Cause) → IfErr r (IsStopped took next ticks s before after Old)
+      → IfErr r (λ fault. IsUnstarted took before after old new fault ⊎ IsStopped took next ticks s before after Cause fault)
+  widened_in before after old new (Ok x) wider of = tt
+  widened_in before after old new (Err e) wider of = inr (record { status = of.status; first = of.first; cause = wider of.cause })
+
   -- the output accepts nothing with exit status 2, 4 or 6
   pub nothing_by : {T O : Type 0} (before after : K) (old new : O) {fault : ProgramFault} (r : Result T ProgramFault)
       → IsUnstarted took before after old new fault ⊎ IsStopped took next ticks s before after Cause fault → IsErrAnd r (λ e. e ≡ fault)
@@ -92,6 +106,11 @@ module _ {K : Type 0} (took : K → List ℕ → K → Type 0) (next : ℕ → H
   caused_by before after old new (Ok x) ended is = tt
   caused_by before after old new (Err e) (inl unstarted) is = λ five. let six : program_status e ≡ 6 = ap program_status is ∙ unstarted.status in absurd (omega (arith, five, six))
   caused_by before after old new (Err e) (inr stopped) is = λ five. stopped.cause
+
+-- a run by equal states
+pub stopped_in : {K : Type 0} (took : K → List ℕ → K → Type 0) (next other : ℕ → HartState → HartState) (ticks : ℕ) (s : HartState) (before after : K) (Cause : Type 0) (fault : ProgramFault)
+    → next ≡ other → IsStopped took next ticks s before after Cause fault → IsStopped took other ticks s before after Cause fault
+stopped_in took next other ticks s before after Cause fault same stopped = subst (λ (n : ℕ → HartState → HartState). IsStopped took n ticks s before after Cause fault) same stopped
 
 -- another exit status than 5
 pub not_five : {T : Type 0} (P : Type 0) (r : Result T ProgramFault) (fault : ProgramFault) → (program_status fault ≡ 2) ⊎ ((program_status fault ≡ 4) ⊎ (program_status fault ≡ 6))
@@ -121,6 +140,11 @@ wider_cause same same_writes wider (inr (inr (inr other))) = inr (inr (inr (wide
 
 pub some_is : {A B : Type 0} (f : A → B) (o : Option A) (x : A) → o ≡ Some x → IsSome (option_map f o)
 some_is {A} f o x is = subst (λ (o : Option A). IsSome (option_map f o)) (sym is) refl
+
+-- a run without choices has no file of choices
+pub unchosen : (arguments : RunArguments) (seed : Option Seed) → AreChoicesOf arguments seed → seed ≡ None → arguments.chosen ≡ None
+unchosen arguments (Some seed) are none = absurd (cc none)
+unchosen arguments None are none = are.1
 
 -- a run with choices has neither counts nor changes
 pub alone : (arguments : RunArguments) (seed : Option Seed) → AreChoicesOf arguments seed → IsSome seed → (arguments.counts ≡ None) × (arguments.changes ≡ None)

@@ -27,7 +27,7 @@ image_rule = record (new_rule (codes "image")) { value_names = 1 }
 
 -- `vecmon-record [--policy POLICY] [--ticks N] [--memory ADDR:PERMS:FILE]... [--registers FILE] [--counts FILE]
 -- [--watch ADDR:LEN]... [--changes FILE] [--log FILE [--from N] [--to N]]
--- [--open SEED [--kinds KIND,...] [--open-from N] [--open-to N] [--open-elements A-B]] [IMAGE]`
+-- [--open SEED [--kinds KIND,...] [--open-from N] [--open-to N] [--open-elements A-B] [--chosen FILE]] [IMAGE]`
 abbrev pub command_line : App
 command_line =
     let app = new_app (codes "vecmon-record") in
@@ -35,7 +35,7 @@ command_line =
     let records = with_rule (with_rule (with_rule initial_machine (option_rule (codes "counts"))) (repeated_rule (codes "watch"))) (option_rule (codes "changes")) in
     let log = with_rule (with_rule (with_rule records (option_rule (codes "log"))) (option_rule (codes "from"))) (option_rule (codes "to")) in
     let choices = with_rule (with_rule (with_rule (with_rule (with_rule log (option_rule (codes "open"))) (option_rule (codes "kinds"))) (option_rule (codes "open-from"))) (option_rule (codes "open-to"))) (option_rule (codes "open-elements")) in
-    with_rule choices image_rule
+    with_rule (with_rule choices (option_rule (codes "chosen"))) image_rule
 
 -- the value that clap assigns to the option with a name, or to IMAGE; the first of `arguments` is the program's name
 abbrev pub word_of : Text → List Text → Option Text
@@ -62,19 +62,20 @@ pub record RunArguments : Type 0 where
   pub open_from : Option Text
   pub open_to : Option Text
   pub open_elements : Option Text
+  pub chosen : Option Text
   pub image : Option Text
 
 -- the values that clap parses; the first of `arguments` is the program's name
 abbrev pub run_arguments : List Text → RunArguments
 run_arguments arguments =
     let one : Text → Option Text = λ name. word_of name arguments in
-    record { policy = one (codes "policy"); ticks = one (codes "ticks"); memory = arguments_of (codes "memory") arguments; registers = one (codes "registers"); counts = one (codes "counts"); watch = arguments_of (codes "watch") arguments; changes = one (codes "changes"); log = one (codes "log"); from = one (codes "from"); to = one (codes "to"); seed = one (codes "open"); kinds = one (codes "kinds"); open_from = one (codes "open-from"); open_to = one (codes "open-to"); open_elements = one (codes "open-elements"); image = one (codes "image") }
+    record { policy = one (codes "policy"); ticks = one (codes "ticks"); memory = arguments_of (codes "memory") arguments; registers = one (codes "registers"); counts = one (codes "counts"); watch = arguments_of (codes "watch") arguments; changes = one (codes "changes"); log = one (codes "log"); from = one (codes "from"); to = one (codes "to"); seed = one (codes "open"); kinds = one (codes "kinds"); open_from = one (codes "open-from"); open_to = one (codes "open-to"); open_elements = one (codes "open-elements"); chosen = one (codes "chosen"); image = one (codes "image") }
 
 -- the values of parsed options
 abbrev pub option_arguments : Options → RunArguments
 option_arguments options =
     let text : Bor Text → Text = λ word. word.now in
-    record { policy = option_map text options.policy; ticks = option_map text options.ticks; memory = texts options.memory.items; registers = option_map text options.registers; counts = option_map text options.counts; watch = texts options.watch.items; changes = option_map text options.changes; log = option_map text options.log; from = option_map text options.from; to = option_map text options.to; seed = option_map text options.seed; kinds = option_map text options.kinds; open_from = option_map text options.open_from; open_to = option_map text options.open_to; open_elements = option_map text options.open_elements; image = option_map text options.image }
+    record { policy = option_map text options.policy; ticks = option_map text options.ticks; memory = texts options.memory.items; registers = option_map text options.registers; counts = option_map text options.counts; watch = texts options.watch.items; changes = option_map text options.changes; log = option_map text options.log; from = option_map text options.from; to = option_map text options.to; seed = option_map text options.seed; kinds = option_map text options.kinds; open_from = option_map text options.open_from; open_to = option_map text options.open_to; open_elements = option_map text options.open_elements; chosen = option_map text options.chosen; image = option_map text options.image }
 
 -- the policy of an option's value, if it is valid; without a value, agnostic elements are preserved
 abbrev pub policy_or_default : Option Text → Option Policy

@@ -1,5 +1,5 @@
--- The options of open choices: the seed, the kinds with commas (byte 44) between them, the range of instructions, and the range of elements with a
--- hyphen (byte 45) between its ends
+-- The options of open choices: the seed, the kinds with commas (byte 44) between them, the range of instructions, the range of elements with a
+-- hyphen (byte 45) between its ends, and the file of choices
 use Rattle.std.specs.Prelude.{◌≡◌, ◌+◌, ◌<◌, ◌≤◌, ◌-◌, ◌^◌, ◌==◌, ◌||◌, Bool, true, ℕ, Option, Some, None, codes, length}
 use Rattle.std.specs.List.{after_first, before_first, list_all, list_any, position_or_len, slice_split}
 use Rattle.std.specs.Option.{option_and_then}
@@ -79,7 +79,7 @@ pub record IsSeedOf (arguments : RunArguments) (seed : Seed) : Type 0 where
   pub no_changes : arguments.changes ≡ None
   pub no_policy : arguments.policy ≡ None
 
--- The choices of a run: none without `--open`.
+-- The choices of a run: none without `--open`, and then no file of choices.
 abbrev pub AreChoicesOf : RunArguments → Option Seed → Type 0
-AreChoicesOf arguments None = arguments.seed ≡ None
+AreChoicesOf arguments None = (arguments.seed ≡ None) × (arguments.chosen ≡ None)
 AreChoicesOf arguments (Some seed) = IsSeedOf arguments seed

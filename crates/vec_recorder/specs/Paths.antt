@@ -21,11 +21,13 @@ pub record IsNoInput (arguments : RunArguments) (memories : List MemoryPath) (ou
   pub registers : Differ output arguments.registers
   pub memory : All (DiffersFrom output) memories
 
--- All output paths differ, and none is an input.
+-- All output paths differ, and none is an input. A run with a file of choices has neither counts nor changes.
 pub record ArePathsApart (arguments : RunArguments) (memories : List MemoryPath) : Type 0 where
   pub counts_and_changes : Differ arguments.counts arguments.changes
   pub counts_and_log : Differ arguments.counts arguments.log
   pub changes_and_log : Differ arguments.changes arguments.log
+  pub log_and_chosen : Differ arguments.log arguments.chosen
   pub counts : IsNoInput arguments memories arguments.counts
   pub changes : IsNoInput arguments memories arguments.changes
   pub log : IsNoInput arguments memories arguments.log
+  pub chosen : IsNoInput arguments memories arguments.chosen

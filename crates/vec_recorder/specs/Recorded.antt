@@ -4,6 +4,7 @@ use Rattle.std.specs.List.{All, AllZip}
 use Rattle.clap.specs.Walk.{Text}
 use Rattle.clap.specs.Words.{IsAmong}
 use Rattle.clap.specs.declared.error.kind.ErrorKind.TheVariants.{DisplayHelp}
+use Rattle.choice_log.specs.ChoiceLines.{choices_from}
 use Rattle.commit_log.specs.Logged.{logged_from}
 use Rattle.commit_log.specs.declared.log.Window.{Window}
 use Rattle.memory_changes.specs.Changes.{changes_from}
@@ -60,6 +61,11 @@ AreChanged took places next ticks s = took (changes_from places 0 0 (ran_by next
 abbrev pub AreLogged : (List ℕ → Type 0) → Window → (ℕ → HartState → HartState) → ℕ → HartState → Type 0
 AreLogged took window next ticks s = took (logged_from window 0 (ran_by next ticks s).found ++ end_of next ticks s)
 
+-- The choices of a run, if a seed makes any, are the lines of each instruction, in order.
+abbrev pub AreChosen : (List ℕ → Type 0) → Option Seed → ℕ → HartState → Type 0
+AreChosen took None ticks s = took []
+AreChosen took (Some seed) ticks s = took (choices_from seed 0 (ran_by (next_of (Some seed)) ticks s).found)
+
 -- A run of at most `ticks` ticks was recorded and had the specified output. `ended` has the run's end and the record.
 pub record RecordsRun {O K : Type 0} (records : O → List HartState → O → Type 0) (took : K → List ℕ → K → Type 0) (next : ℕ → HartState → HartState) (ticks : ℕ) (s left : HartState) (before after : K)
     (first : O) (ended : Option StepEnd × O) : Type 0 where
@@ -105,6 +111,11 @@ abbrev pub AreRecordsKept : {O F : Type 0} → (O → Text → F → O → Type 
 AreRecordsKept created took closed counts changes log places window next ticks s =
     IsKept created took closed counts (λ printed. AreCounted printed next ticks s) (AreChangesKept created took closed changes log places window next ticks s)
 
+-- the choices of a run with the choices of a seed, if there is one, and all its other records are in their files, and no other file was touched
+abbrev pub AreFilesKept : {O F : Type 0} → (O → Text → F → O → Type 0) → (F → List ℕ → F → Type 0) → (O → F → O → Type 0) → Option Text → Option Text → Option Text → Option Text → List Place → Window → Option Seed → ℕ → HartState → O → O → Type 0
+AreFilesKept created took closed counts changes log chosen places window seed ticks s =
+    IsKept created took closed chosen (λ printed. AreChosen printed seed ticks s) (AreRecordsKept created took closed counts changes log places window (next_of seed) ticks s)
+
 -- ---- runs
 
 -- A run of at most `ticks` ticks ended with exit status 5, for the reason `Cause`. The output accepted the first bytes of the run's whole output.
@@ -121,9 +132,9 @@ pub record IsUnstarted {K O : Type 0} (took : K → List ℕ → K → Type 0) (
 
 -- The output of a run is complete, and its records are in the files that the arguments name. No other file was touched.
 pub record IsComplete {O F : Type 0} (created : O → Text → F → O → Type 0) (took : F → List ℕ → F → Type 0) (closed : O → F → O → Type 0) (put : List ℕ → Type 0) (arguments : RunArguments) (old new : O)
-    (next : ℕ → HartState → HartState) (ticks : ℕ) (places : List Place) (window : Window) (state : HartState) : Type 0 where
-  pub output : put (flat_map output_of (ran_by next ticks state).found)
-  pub records : AreRecordsKept created took closed arguments.counts arguments.changes arguments.log places window next ticks state old new
+    (seed : Option Seed) (ticks : ℕ) (places : List Place) (window : Window) (state : HartState) : Type 0 where
+  pub output : put (flat_map output_of (ran_by (next_of seed) ticks state).found)
+  pub records : AreFilesKept created took closed arguments.counts arguments.changes arguments.log arguments.chosen places window seed ticks state old new
 
 -- A run started from the image, memory and registers of the arguments, and `Ran` describes it.
 pub record RunBy (file_bytes : Text → Option (List ℕ)) (arguments : RunArguments) (policy : Policy) (memories : List MemoryPath) (Ran : HartState → Type 0) : Type 0 where
@@ -144,7 +155,7 @@ pub record AreValuesOf (arguments : RunArguments) (policy : Policy) (ticks : ℕ
   pub choices_are : AreChoicesOf arguments seed
 
 -- The arguments are valid and describe a run, and `Ran` describes it.
-pub record RecordedBy (file_bytes : Text → Option (List ℕ)) (arguments : RunArguments) (Ran : (ℕ → HartState → HartState) → ℕ → List Place → Window → HartState → Type 0) : Type 0 where
+pub record RecordedBy (file_bytes : Text → Option (List ℕ)) (arguments : RunArguments) (Ran : Option Seed → ℕ → List Place → Window → HartState → Type 0) : Type 0 where
   pub policy : Policy
   pub ticks : ℕ
   pub memories : List MemoryPath
@@ -152,10 +163,10 @@ pub record RecordedBy (file_bytes : Text → Option (List ℕ)) (arguments : Run
   pub window : Window
   pub seed : Option Seed
   pub values : AreValuesOf arguments policy ticks memories places window seed
-  pub run : RunBy file_bytes arguments policy memories (Ran (next_of seed) ticks places window)
+  pub run : RunBy file_bytes arguments policy memories (Ran seed ticks places window)
 
 -- clap accepted the arguments, and `Ran` describes the run that they describe
-pub record Recorded (file_bytes : Text → Option (List ℕ)) (arguments : List Text) (Ran : (ℕ → HartState → HartState) → ℕ → List Place → Window → HartState → Type 0) : Type 0 where
+pub record Recorded (file_bytes : Text → Option (List ℕ)) (arguments : List Text) (Ran : Option Seed → ℕ → List Place → Window → HartState → Type 0) : Type 0 where
   pub accepted : arguments_fault arguments ≡ []
   pub run : RecordedBy file_bytes (run_arguments arguments) Ran
 

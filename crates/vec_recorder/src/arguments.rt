@@ -34,6 +34,7 @@ pub fn options<'a>(alloc: Global, arguments: &'a [&'a str]) -> Result<Options<'a
         open_from: matches.get_str("open-from"),
         open_to: matches.get_str("open-to"),
         open_elements: matches.get_str("open-elements"),
+        chosen: matches.get_str("chosen"),
         image: matches.get_str("image"),
     })
 }

@@ -49,6 +49,8 @@ const OPEN_TO_HELP: &str = "The last instruction with choices, 1 to 2^63 [defaul
 
 const OPEN_ELEMENTS_HELP: &str = "Choose only elements A to B, 0 to 255 [default: all]";
 
+const CHOSEN_HELP: &str = "Write the choices of each instruction to FILE";
+
 /// The values of the options, as text.
 #[derive(Debug, Drop)]
 pub struct Options<'a> {
@@ -82,6 +84,8 @@ pub struct Options<'a> {
     pub open_to: Option<&'a str>,
     /// The elements that may be chosen.
     pub open_elements: Option<&'a str>,
+    /// The path of the file of choices.
+    pub chosen: Option<&'a str>,
     /// The path of the image.
     pub image: Option<&'a str>,
 }
@@ -167,5 +171,6 @@ pub fn command<'a>(alloc: Global) -> Result<Command<'a>, AllocError>
         .arg(option(alloc, "open-from", "N", OPEN_FROM_HELP))?
         .arg(option(alloc, "open-to", "N", OPEN_TO_HELP))?
         .arg(option(alloc, "open-elements", "A-B", OPEN_ELEMENTS_HELP))?
+        .arg(option(alloc, "chosen", "FILE", CHOSEN_HELP))?
         .arg(image(alloc))
 }

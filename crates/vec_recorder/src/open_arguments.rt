@@ -1,4 +1,5 @@
-//! The options of open choices: `--open SEED`, `--kinds KIND,...`, `--open-from N`, `--open-to N`, `--open-elements A-B`.
+//! The options of open choices: `--open SEED`, `--kinds KIND,...`, `--open-from N`, `--open-to N`, `--open-elements A-B`,
+//! `--chosen FILE`.
 ghost use Rattle.std.specs.Prelude.{◌≡◌, ◌<◌, ◌==◌, IfErr, IfOk, IfSome, None, option_map};
 ghost use Rattle.std.specs.List.{list_all, slice_split};
 ghost use Rattle.rv_model.specs.commands.Arguments.{number_between};
@@ -83,7 +84,9 @@ fn element_range(word: &str) -> Option<(usize, usize)>
 }
 
 /// Return the option that needs `--open`, if one is given.
-fn needs_open(options: &Options<'_>) -> Option<&'static str> {
+fn needs_open(options: &Options<'_>) -> Option<&'static str>
+    ensures { result ≡ None → (option_arguments options.now).chosen ≡ None }
+{
     if options.kinds.is_some() {
         Some("--kinds")
     } else if options.open_from.is_some() {
@@ -92,6 +95,8 @@ fn needs_open(options: &Options<'_>) -> Option<&'static str> {
         Some("--open-to")
     } else if options.open_elements.is_some() {
         Some("--open-elements")
+    } else if options.chosen.is_some() {
+        Some("--chosen")
     } else {
         None
     }

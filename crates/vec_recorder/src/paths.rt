@@ -42,6 +42,7 @@ fn check_outputs<'a, F: Outputs>(
     ensures changes { IsOk result → Differ (option_arguments options.now).counts (option_arguments options.now).changes }
     ensures log { IsOk result → Differ (option_arguments options.now).counts (option_arguments options.now).log }
     ensures both { IsOk result → Differ (option_arguments options.now).changes (option_arguments options.now).log }
+    ensures chosen { IsOk result → Differ (option_arguments options.now).log (option_arguments options.now).chosen }
     ensures refused { IfErr result (λ fault. (program_status fault ≡ 2) ⊎ (program_status fault ≡ 6)) }
 {
     if are_same(files, alloc, options.counts, options.changes)? {
@@ -52,6 +53,9 @@ fn check_outputs<'a, F: Outputs>(
     }
     if are_same(files, alloc, options.changes, options.log)? {
         return Err(ProgramFault::SameOutput("--changes", "--log"));
+    }
+    if are_same(files, alloc, options.log, options.chosen)? {
+        return Err(ProgramFault::SameOutput("--log", "--chosen"));
     }
     Ok(())
 }
@@ -119,5 +123,6 @@ pub(crate) fn check_paths<'a, F: Outputs>(
         options,
         memories,
     )?;
-    check_inputs(files, alloc, "--log", options.log, options, memories)
+    check_inputs(files, alloc, "--log", options.log, options, memories)?;
+    check_inputs(files, alloc, "--chosen", options.chosen, options, memories)
 }

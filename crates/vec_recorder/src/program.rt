@@ -78,10 +78,11 @@ fn run_options<'a, I: Inputs, F: Outputs, K: Sink>(
     requires machine { IfOk created (λ machine. (state_of own_memory machine ≡ entered machine.policy)
         × (machine.policy ≡ values.policy)) }
     requires alone { IsSome values.seed → ((option_arguments options.now).counts ≡ None) × ((option_arguments options.now).changes ≡ None) }
+    requires unchosen { values.seed ≡ None → (option_arguments options.now).chosen ≡ None }
     ensures ran { OnOk result (RunBy (I.file_bytes inputs.now) (option_arguments options.now) values.entry.policy
         values.entry.memories.items (IsComplete F.is_created F.Created.took F.is_closed
         (λ printed. K.took output.old printed output.new) (option_arguments options.now) files.old files.new
-        (next_of values.entry.seed) values.entry.ticks values.entry.places.items values.entry.window)) }
+        values.entry.seed values.entry.ticks values.entry.places.items values.entry.window)) }
     ensures printed { K.took output.old [] output.new ⊎ RunBy (I.file_bytes inputs.now) (option_arguments options.now)
         values.entry.policy values.entry.memories.items (λ state. TakesFirst K.took output.old
         (flat_map output_of (ran_by (next_of values.entry.seed) values.entry.ticks state).found) output.new) }
@@ -90,7 +91,8 @@ fn run_options<'a, I: Inputs, F: Outputs, K: Sink>(
     ensures unused { IfErr result (λ fault.
         (program_status fault ≡ 2) ⊎ ((program_status fault ≡ 4) ⊎ (program_status fault ≡ 6)) → files.new ≡ files.old) }
     ensures failed { IfErr result (λ fault. program_status fault ≡ 5 → HasCause
-        (IsSome (option_arguments options.now).counts ⊎ IsSome (option_arguments options.now).changes)
+        ((IsSome (option_arguments options.now).counts ⊎ IsSome (option_arguments options.now).changes)
+        ⊎ IsSome (option_arguments options.now).chosen)
         (K.failures output.old) (K.failures output.new) (F.failures files.old) (F.failures files.new)
         (F.write_failures files.old) (F.write_failures files.new)) }
     ensures kept { F.failures files.old < F.failures files.new → F.are_kept files.old files.new }
@@ -123,6 +125,7 @@ fn run_options<'a, I: Inputs, F: Outputs, K: Sink>(
         log: options.log,
         window,
         seed,
+        chosen: options.chosen,
     };
     let short = run_machine(files, alloc, &mut machine, output, asked)?;
     Ok(short)
@@ -141,14 +144,15 @@ fn record_options<'a, I: Inputs, F: Outputs, K: Sink>(
         (IsComplete F.is_created F.Created.took F.is_closed (λ printed. K.took output.old printed output.new)
         (option_arguments options.now) files.old files.new)) }
     ensures printed { K.took output.old [] output.new
-        ⊎ RecordedBy (I.file_bytes inputs.now) (option_arguments options.now) (λ next ticks _ _ state.
-        TakesFirst K.took output.old (flat_map output_of (ran_by next ticks state).found) output.new) }
+        ⊎ RecordedBy (I.file_bytes inputs.now) (option_arguments options.now) (λ seed ticks _ _ state.
+        TakesFirst K.took output.old (flat_map output_of (ran_by (next_of seed) ticks state).found) output.new) }
     ensures nothing { IfErr result (λ fault.
         (program_status fault ≡ 2) ⊎ ((program_status fault ≡ 4) ⊎ (program_status fault ≡ 6)) → K.took output.old [] output.new) }
     ensures unused { IfErr result (λ fault.
         (program_status fault ≡ 2) ⊎ ((program_status fault ≡ 4) ⊎ (program_status fault ≡ 6)) → files.new ≡ files.old) }
     ensures failed { IfErr result (λ fault. program_status fault ≡ 5 → HasCause
-        (IsSome (option_arguments options.now).counts ⊎ IsSome (option_arguments options.now).changes)
+        ((IsSome (option_arguments options.now).counts ⊎ IsSome (option_arguments options.now).changes)
+        ⊎ IsSome (option_arguments options.now).chosen)
         (K.failures output.old) (K.failures output.new) (F.failures files.old) (F.failures files.new)
         (F.write_failures files.old) (F.write_failures files.new)) }
     ensures kept { F.failures files.old < F.failures files.new → F.are_kept files.old files.new }
@@ -199,14 +203,15 @@ fn record_arguments<'a, I: Inputs, F: Outputs, K: Sink>(
         (run_arguments (texts arguments.now)) files.old files.new)) }
     ensures printed { K.took output.old [] output.new
         ⊎ (IsHelped (texts arguments.now) (λ printed. K.took output.old printed output.new) files.old files.new
-        ⊎ Recorded (I.file_bytes inputs.now) (texts arguments.now) (λ next ticks _ _ state.
-        TakesFirst K.took output.old (flat_map output_of (ran_by next ticks state).found) output.new)) }
+        ⊎ Recorded (I.file_bytes inputs.now) (texts arguments.now) (λ seed ticks _ _ state.
+        TakesFirst K.took output.old (flat_map output_of (ran_by (next_of seed) ticks state).found) output.new)) }
     ensures nothing { IfErr result (λ fault.
         (program_status fault ≡ 2) ⊎ ((program_status fault ≡ 4) ⊎ (program_status fault ≡ 6)) → K.took output.old [] output.new) }
     ensures unused { IfErr result (λ fault.
         (program_status fault ≡ 2) ⊎ ((program_status fault ≡ 4) ⊎ (program_status fault ≡ 6)) → files.new ≡ files.old) }
     ensures failed { IfErr result (λ fault. program_status fault ≡ 5 → HasCause
-        (IsSome (run_arguments (texts arguments.now)).counts ⊎ IsSome (run_arguments (texts arguments.now)).changes)
+        ((IsSome (run_arguments (texts arguments.now)).counts ⊎ IsSome (run_arguments (texts arguments.now)).changes)
+        ⊎ IsSome (run_arguments (texts arguments.now)).chosen)
         (K.failures output.old) (K.failures output.new) (F.failures files.old) (F.failures files.new)
         (F.write_failures files.old) (F.write_failures files.new)) }
     ensures kept { F.failures files.old < F.failures files.new → F.are_kept files.old files.new }
@@ -253,8 +258,8 @@ pub fn record_into<R: Inputs + Eprint, F: Outputs, K: Sink>(
 ) -> u8
     ensures statuses { (result ≡ 0) ⊎ ((result ≡ 2) ⊎ ((result ≡ 4) ⊎ ((result ≡ 5) ⊎ (result ≡ 6)))) }
     // The exit status is 0 if the arguments ask for help, which is then the output. It is also 0 if the run that they
-    // describe was executed with the specified output, and its counts, changes and log are in the files that they name.
-    // These files have no other bytes, and no other file was created.
+    // describe was executed with the specified output, and its counts, changes, log and choices are in the files that
+    // they name. These files have no other bytes, and no other file was created.
     ensures recorded { result ≡ 0 →
         IsHelped (texts arguments.now) (λ printed. K.took output.old printed output.new) files.old files.new
         ⊎ Recorded (R.file_bytes rt.now) (texts arguments.now)
@@ -263,15 +268,16 @@ pub fn record_into<R: Inputs + Eprint, F: Outputs, K: Sink>(
     // For every exit status, the output is empty, help, or a prefix of the output of the run that the arguments describe.
     ensures printed { K.took output.old [] output.new
         ⊎ (IsHelped (texts arguments.now) (λ printed. K.took output.old printed output.new) files.old files.new
-        ⊎ Recorded (R.file_bytes rt.now) (texts arguments.now) (λ next ticks _ _ state.
-        TakesFirst K.took output.old (flat_map output_of (ran_by next ticks state).found) output.new)) }
+        ⊎ Recorded (R.file_bytes rt.now) (texts arguments.now) (λ seed ticks _ _ state.
+        TakesFirst K.took output.old (flat_map output_of (ran_by (next_of seed) ticks state).found) output.new)) }
     ensures nothing { (result ≡ 2) ⊎ ((result ≡ 4) ⊎ (result ≡ 6)) → K.took output.old [] output.new }
     // No file was created, written or closed.
     ensures unused { (result ≡ 2) ⊎ ((result ≡ 4) ⊎ (result ≡ 6)) → files.new ≡ files.old }
     // The exit status is 5 only if a write to the output failed, a file couldn't be created, a write to a closed file
-    // failed, or the arguments name a counts file or a changes file.
+    // failed, or the arguments name a file of counts, changes or choices.
     ensures failed { result ≡ 5 → HasCause
-        (IsSome (run_arguments (texts arguments.now)).counts ⊎ IsSome (run_arguments (texts arguments.now)).changes)
+        ((IsSome (run_arguments (texts arguments.now)).counts ⊎ IsSome (run_arguments (texts arguments.now)).changes)
+        ⊎ IsSome (run_arguments (texts arguments.now)).chosen)
         (K.failures output.old) (K.failures output.new) (F.failures files.old) (F.failures files.new)
         (F.write_failures files.old) (F.write_failures files.new) }
     // If a file couldn't be created, no file that existed has changed.

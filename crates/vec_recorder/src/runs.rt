@@ -1,4 +1,4 @@
-//! A run with its records: counts, changes, and a log, each of them optional.
+//! A run with its records: counts, changes, a log, and choices, each of them optional.
 ghost use Rattle.std.specs.Prelude.{◌≡◌, ◌⊎◌, ◌<◌, ◌%◌, ◌^◌, ◌++◌, [], IfErr, IfOk, IfSome, IsSome, OnErr, OnOk, None, flat_map, option_map, ⊤};
 ghost use Rattle.devices.specs.Device.{Rose};
 ghost use Rattle.recording.specs.Machines.{state_of};
@@ -8,12 +8,13 @@ ghost use Rattle.recording.specs.declared.fault.RecordFault.{RecordFault};
 ghost use Rattle.first_state.specs.OwnMemory.{own_memory};
 ghost use Rattle.vec_recorder.specs.OpenArguments.{next_of};
 ghost use Rattle.vec_recorder.specs.RecordLines.{last_line, row_line};
-ghost use Rattle.vec_recorder.specs.Recorded.{AreChangesKept, AreRecordsKept, IsLogKept, IsStopped, IsUnstarted, RecordsRun};
+ghost use Rattle.vec_recorder.specs.Recorded.{AreChangesKept, AreChosen, AreFilesKept, AreRecordsKept, IsKept, IsLogKept, IsStopped, IsUnstarted, RecordsRun};
 ghost use Rattle.vec_recorder.specs.Statuses.{HasCause, program_status, record_fault};
 
 use crate::outputs::Outputs;
 use crate::program_fault::ProgramFault;
 use crate::record_lines::{ascend, sort_rows, write_last, write_rows};
+use choice_log::ChoiceLog;
 use commit_log::{Log, Text, Window};
 use devices::{DeviceFault, Sink};
 use first_state::OwnBytes;
@@ -85,8 +86,8 @@ fn write_counts<C: Sink>(
     write_last(file, pc, end, sums.times, sums.ticks)
 }
 
-/// The parameters of a run: the maximum number of ticks, the paths of the files of counts, changes and log, if there are
-/// any, the watched ranges, the range of instructions in the log, and the seed of choices, if there are any.
+/// The parameters of a run: the maximum number of ticks, the paths of the files of counts, changes, log and choices, if
+/// there are any, the watched ranges, the range of instructions in the log, and the seed of choices, if there are any.
 #[derive(Drop)]
 pub(crate) struct RecordedRun<'a> {
     pub ticks: u64,
@@ -96,6 +97,7 @@ pub(crate) struct RecordedRun<'a> {
     pub log: Option<&'a str>,
     pub window: Window,
     pub seed: Option<Seed>,
+    pub chosen: Option<&'a str>,
 }
 
 /// The path of a log file, and memory for lines that aren't written yet.
@@ -339,6 +341,44 @@ fn run_chosen<'a, F: Outputs, K: Sink>(
     Ok(short.count)
 }
 
+/// Run a program with the choices of a seed as `run_chosen` does, and write its choices to the file at a path. Return the
+/// number of the program's write calls that wrote fewer bytes than requested.
+fn run_listed<'a, F: Outputs, K: Sink>(
+    files: &mut F,
+    machine: &mut SingleUserMachine<OwnBytes>,
+    output: &mut K,
+    asked: LoggedRun<'a>,
+    seed: Seed,
+    path: &'a str,
+) -> Result<u64, ProgramFault<'a>>
+    requires { IfSome asked.log (λ log. log.text ≡ []) }
+    ensures output { OnOk result (K.took output.old
+        (flat_map output_of (ran_by (next_of (Some seed)) asked.entry.ticks (state_of own_memory machine.old)).found) output.new) }
+    ensures chosen { OnOk result (IsKept F.is_created F.Created.took F.is_closed (Some path.entry.now)
+        (λ printed. AreChosen printed (Some seed) asked.entry.ticks (state_of own_memory machine.old))
+        (IsLogKept F.is_created F.Created.took F.is_closed (option_map (λ log. log.path.now) asked.entry.log)
+        asked.entry.window (next_of (Some seed)) asked.entry.ticks (state_of own_memory machine.old)) files.old files.new) }
+    ensures stopped { IfErr result (IsStopped K.took (next_of (Some seed)) asked.entry.ticks (state_of own_memory machine.old)
+        output.old output.new ⊤) }
+    ensures kept { F.failures files.old < F.failures files.new → F.are_kept files.old files.new }
+{
+    let mut chooser = OpenChooser::new(seed);
+    let file = created_file(files, path)?;
+    let both = RecorderPair {
+        first: ShortWrites::none(),
+        second: ChoiceLog::new(file, seed),
+    };
+    let (_, both) = run_recorded(files, machine, output, asked, &mut chooser, both)?;
+    let RecorderPair { first, second } = both;
+    let mut chosen_file = second.sink;
+    // The first write removes the file's old bytes. A run without choices hasn't written anything yet.
+    let Ok(_) = chosen_file.write(b"") else {
+        return Err(ProgramFault::Write(path));
+    };
+    files.close(chosen_file);
+    Ok(first.count)
+}
+
 /// Run a program without choices, and write its counts, the changes of watched ranges and its log to the files whose
 /// paths are given. All memory is allocated before a file is created. Return the number of the program's write calls
 /// that wrote fewer bytes than requested.
@@ -390,8 +430,8 @@ fn run_unchosen<'a, F: Outputs, K: Sink>(
     run_counted(files, machine, output, asked, path, counts)
 }
 
-/// Run a program, with the choices of a seed if there is one, and write its counts, the changes of watched ranges and its
-/// log to the files whose paths are given. All memory is allocated before a file is created. Return the number of the
+/// Run a program, with the choices of a seed if there is one, and write its counts, the changes of watched ranges, its log
+/// and its choices to the files whose paths are given. All memory is allocated before a file is created. Return the number of the
 /// program's write calls that wrote fewer bytes than requested.
 pub(crate) fn run_machine<'a, F: Outputs, K: Sink>(
     files: &mut F,
@@ -401,17 +441,20 @@ pub(crate) fn run_machine<'a, F: Outputs, K: Sink>(
     asked: RecordedRun<'a>,
 ) -> Result<u64, ProgramFault<'a>>
     requires alone { IsSome asked.seed → (option_map (λ path. path.now) asked.counts ≡ None) × (option_map (λ path. path.now) asked.changes ≡ None) }
+    requires unchosen { asked.seed ≡ None → option_map (λ path. path.now) asked.chosen ≡ None }
     ensures output { OnOk result (K.took output.old
         (flat_map output_of (ran_by (next_of asked.entry.seed) asked.entry.ticks (state_of own_memory machine.old)).found) output.new) }
-    ensures records { OnOk result (AreRecordsKept F.is_created F.Created.took F.is_closed
+    ensures records { OnOk result (AreFilesKept F.is_created F.Created.took F.is_closed
         (option_map (λ path. path.now) asked.entry.counts) (option_map (λ path. path.now) asked.entry.changes)
-        (option_map (λ path. path.now) asked.entry.log) asked.entry.places.items asked.entry.window
-        (next_of asked.entry.seed) asked.entry.ticks (state_of own_memory machine.old) files.old files.new) }
+        (option_map (λ path. path.now) asked.entry.log) (option_map (λ path. path.now) asked.entry.chosen)
+        asked.entry.places.items asked.entry.window asked.entry.seed asked.entry.ticks
+        (state_of own_memory machine.old) files.old files.new) }
     ensures stopped { IfErr result (λ fault. IsUnstarted K.took output.old output.new files.old files.new fault
         ⊎ IsStopped K.took (next_of asked.entry.seed) asked.entry.ticks (state_of own_memory machine.old)
         output.old output.new (HasCause
-        (IsSome (option_map (λ path. path.now) asked.entry.counts)
+        ((IsSome (option_map (λ path. path.now) asked.entry.counts)
         ⊎ IsSome (option_map (λ path. path.now) asked.entry.changes))
+        ⊎ IsSome (option_map (λ path. path.now) asked.entry.chosen))
         (K.failures output.old) (K.failures output.new) (F.failures files.old) (F.failures files.new)
         (F.write_failures files.old) (F.write_failures files.new)) fault) }
     ensures kept { F.failures files.old < F.failures files.new → F.are_kept files.old files.new }
@@ -423,11 +466,15 @@ pub(crate) fn run_machine<'a, F: Outputs, K: Sink>(
         ticks,
         log,
         window,
+        chosen,
         ..
     } = asked;
     let Ok(log) = log_output(alloc, log) else {
         return Err(ProgramFault::NoMemory);
     };
     let logged = LoggedRun { ticks, log, window };
-    run_chosen(files, machine, output, logged, seed)
+    let Some(path) = chosen else {
+        return run_chosen(files, machine, output, logged, seed);
+    };
+    run_listed(files, machine, output, logged, seed, path)
 }

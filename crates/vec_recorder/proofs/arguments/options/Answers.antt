@@ -11,7 +11,7 @@ returns c =
     let matches = c.in_ok-matches.matches in
     let rows = rows_by command matches arguments c.in_ok-command.ensures c.in_ok-matches.ensures.matches in
     record {
-      arguments = arguments_alike (run_arguments arguments) _ _ _ _ _ _ _ _ _ _ _ _ _ _ _ _
+      arguments = arguments_alike (run_arguments arguments) _ _ _ _ _ _ _ _ _ _ _ _ _ _ _ _ _
           (c.get_str.ensures ∙ word_read matches arguments _ rows)
           (c.get_str-2.ensures ∙ word_read matches arguments _ rows)
           (ap texts (c.in_ok-extend_from_slice.ensures.items ∙ ap (λ items. items ++ c.unwrap_or_default.result.now) c.new-memory.ensures.items)
@@ -29,7 +29,8 @@ returns c =
           (c.get_str-11.ensures ∙ word_read matches arguments _ rows)
           (c.get_str-12.ensures ∙ word_read matches arguments _ rows)
           (c.get_str-13.ensures ∙ word_read matches arguments _ rows)
-          (c.get_str-14.ensures ∙ word_read matches arguments _ rows);
+          (c.get_str-14.ensures ∙ word_read matches arguments _ rows)
+          (c.get_str-15.ensures ∙ word_read matches arguments _ rows);
       taken = λ taken. taken_by command arguments c.in_ok-command.ensures c.in_ok-matches.ensures.kinds;
       refused = tt;
     }

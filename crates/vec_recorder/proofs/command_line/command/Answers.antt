@@ -24,4 +24,5 @@ returns c =
     let thirteenth = c.in_ok-arg-13.ensures.shape c.option-11.ensures.local ∙ ap₂ with_rule twelfth c.option-11.ensures.rule in
     let fourteenth = c.in_ok-arg-14.ensures.shape c.option-12.ensures.local ∙ ap₂ with_rule thirteenth c.option-12.ensures.rule in
     let fifteenth = c.in_ok-arg-15.ensures.shape c.option-13.ensures.local ∙ ap₂ with_rule fourteenth c.option-13.ensures.rule in
-    IfOk-weaker c.arg-16.result _ _ (λ command added. added.shape c.image.ensures.local ∙ ap₂ with_rule fifteenth c.image.ensures.rule) c.arg-16.ensures
+    let sixteenth = c.in_ok-arg-16.ensures.shape c.option-14.ensures.local ∙ ap₂ with_rule fifteenth c.option-14.ensures.rule in
+    IfOk-weaker c.arg-17.result _ _ (λ command added. added.shape c.image.ensures.local ∙ ap₂ with_rule sixteenth c.image.ensures.rule) c.arg-17.ensures

@@ -5,6 +5,7 @@ use Rattle.clap.specs.Walk.{texts}
 use Rattle.clap.specs.Words.{IsAmong}
 use Rattle.recording.specs.Runs.{TakesFirst, output_of, ran_by}
 use Rattle.vec_recorder.specs.CommandLine.{arguments_fault, IsRefusedFor}
+use Rattle.vec_recorder.specs.OpenArguments.{next_of}
 use Rattle.vec_recorder.specs.Recorded.{IsComplete, RecordedBy}
 use Rattle.vec_recorder.specs.Statuses.{HasCause, program_status}
 use Rattle.vec_recorder.proofs.program.record_arguments.Goals as goal
@@ -29,14 +30,14 @@ returns-in-Ok g c =
         | inr first ↦ inr (inr (record {
           accepted = asked.taken refl;
           run = subst
-              (λ them. RecordedBy file_bytes them (λ next ticks _ _ state. TakesFirst g.K.Sink.took c.args.output.now (flat_map output_of (ran_by next ticks state).found) c.record_options.new.output))
+              (λ them. RecordedBy file_bytes them (λ seed ticks _ _ state. TakesFirst g.K.Sink.took c.args.output.now (flat_map output_of (ran_by (next_of seed) ticks state).found) c.record_options.new.output))
               asked.arguments first;
         }))
       ];
       nothing = c.record_options.ensures.nothing;
       unused = c.record_options.ensures.unused;
       failed = subst
-          (λ them. IfErr c.record_options.result (λ fault. program_status fault ≡ 5 → HasCause (IsSome them.counts ⊎ IsSome them.changes)
+          (λ them. IfErr c.record_options.result (λ fault. program_status fault ≡ 5 → HasCause ((IsSome them.counts ⊎ IsSome them.changes) ⊎ IsSome them.chosen)
           (g.K.Sink.failures c.args.output.now) (g.K.Sink.failures c.record_options.new.output) (g.F.Outputs.failures c.args.files.now) (g.F.Outputs.failures c.record_options.new.files) (g.F.Outputs.write_failures c.args.files.now) (g.F.Outputs.write_failures c.record_options.new.files)))
           asked.arguments c.record_options.ensures.failed;
       kept = c.record_options.ensures.kept;

@@ -9,7 +9,7 @@ use Rattle.vec_recorder.specs.Statuses.{program_status}
 use Rattle.vec_recorder.specs.WatchArguments.{IsPlaceAt, IsPlaceOf}
 use Rattle.vec_recorder.proofs.MemoryArgumentLaws.{zip_texts}
 use Rattle.vec_recorder.proofs.RunLaws.{entered_with}
-use Rattle.vec_recorder.proofs.StopLaws.{alone, not_five}
+use Rattle.vec_recorder.proofs.StopLaws.{alone, not_five, unchosen}
 use Rattle.vec_recorder.proofs.program.record_options.Goals as goal
 
 pub run_options-requires-clause-machine : goal.run_options-requires-clause-machine
@@ -17,6 +17,9 @@ run_options-requires-clause-machine g c = entered_with _ _ c.enter.ensures
 
 pub run_options-requires-clause-alone : goal.run_options-requires-clause-alone
 run_options-requires-clause-alone g c = λ some. alone (option_arguments c.args.options.now) c.in_ok-seed.seed c.in_ok-seed.ensures.choices some
+
+pub run_options-requires-clause-unchosen : goal.run_options-requires-clause-unchosen
+run_options-requires-clause-unchosen g c = λ none. unchosen (option_arguments c.args.options.now) c.in_ok-seed.seed c.in_ok-seed.ensures.choices none
 
 pub returns : goal.returns
 returns g c =

@@ -57,4 +57,4 @@ pub returns-in_err-check_places-clause-failed : goal.returns-in_err-check_places
 returns-in_err-check_places-clause-failed g c = not_five _ c.from_residual-in_err-check_places.result c.in_err-check_places.field-0.0 (inr (inl c.in_err-check_places.ensures)) c.from_residual-in_err-check_places.ensures.1
 
 pub run_machine-requires : goal.run_machine-requires
-run_machine-requires g c = record { alone = c.requires.alone }
+run_machine-requires g c = record { alone = c.requires.alone; unchosen = c.requires.unchosen }

@@ -1,0 +1,3 @@
+pub mod ChoiceLines
+pub mod ListLaws
+pub mod Listed
