@@ -10,8 +10,8 @@ from vecmon_lab.machine.session import Session
 
 def test_examples_have_titles_and_sentences() -> None:
     examples = example_sources()
-    assert [example["language"] for example in examples] == [0] * 19 + [1] * 6 and LANGUAGES[1].name == "C, O2"
-    groups = ["Examples in assembler"] * 13 + ["Programs that rely on unspecified values"] * 6 + ["Examples in C"] * 6
+    assert [example["language"] for example in examples] == [0] * 21 + [1] * 6 and LANGUAGES[1].name == "C, O2"
+    groups = ["Examples in assembler"] * 13 + ["Programs that rely on unspecified values"] * 8 + ["Examples in C"] * 6
     assert [example["group"] for example in examples] == groups
     by_name = {example["name"]: example for example in examples}
     loop, flawed = by_name["strip_mined.s"], by_name["sums_not_cleared.s"]

@@ -141,7 +141,8 @@ def test_arguments_after_image_belong_to_program(command: str, words: list[str],
     prefixes: list[list[str]] = [[], ["--in", "file"], ["--in", "file", "--"]]
     for before in prefixes:
         arguments = start.arguments_of([command, *before, "image", *words])
-        assert (arguments.image, arguments.words) == (pathlib.Path("image"), given)
+        assert (arguments.named, arguments.words) == (pathlib.Path("image"), given)
+        assert command == "compare" or arguments.image == arguments.named  # `compare` builds the image later
         assert arguments.input == (pathlib.Path("file") if before else None)
 
 

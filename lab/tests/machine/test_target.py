@@ -64,7 +64,8 @@ def test_every_command_refuses_longer_registers(
 ) -> None:
     words = commands(longer, tmp_path)[name]
     what = "image it" if name in ("lesson", "class") else longer
-    assert lab(*words) == (2, b"", f"vecmon-lab: {what}: {REFUSED}{OVERRIDE}\n")
+    status = 125 if name == "compare" else 2  # of a program that can't be run
+    assert lab(*words) == (status, b"", f"vecmon-lab: {what}: {REFUSED}{OVERRIDE}\n")
 
 
 def test_longer_registers_are_accepted_with_option(lab: Lab, longer: pathlib.Path, tmp_path: pathlib.Path) -> None:
