@@ -77,12 +77,6 @@ module _ {K : Type 0} (took : K → List ℕ → K → Type 0) (next : ℕ → H
   widened_or before after old new (Err e) wider (inl none) = inl none
   widened_or before after old new (Err e) wider (inr of) = inr (record { status = of.status; first = of.first; cause = wider of.cause })
 
-  -- the same of a run that started
-  pub widened_in : {T O Old : Type 0} (before after : K) (old new : O) (r : Result T ProgramFault) → (Old → Cause) → IfErr r (IsStopped took next ticks s before after Old)
-      → IfErr r (λ fault. IsUnstarted took before after old new fault ⊎ IsStopped took next ticks s before after Cause fault)
-  widened_in before after old new (Ok x) wider of = tt
-  widened_in before after old new (Err e) wider of = inr (record { status = of.status; first = of.first; cause = wider of.cause })
-
   -- the output accepts nothing with exit status 2, 4 or 6
   pub nothing_by : {T O : Type 0} (before after : K) (old new : O) {fault : ProgramFault} (r : Result T ProgramFault)
       → IsUnstarted took before after old new fault ⊎ IsStopped took next ticks s before after Cause fault → IsErrAnd r (λ e. e ≡ fault)
