@@ -33,7 +33,7 @@ def test_example_begins_bench(page: Tab) -> None:
     page.wait("document.activeElement.id === 'new-program'")
     assert page.run(SHOWN) == [True, False] and not page.run("id('controls').checkVisibility()")
     names = page.run("all('.tile small').map((note) => note.textContent)")
-    assert len(names) == len(set(names)) == 25 and {
+    assert len(names) == len(set(names)) == 27 and {
         "strip_mined.s",
         "squares_of_five_numbers.s",
         "tail_added.s",

@@ -252,7 +252,7 @@ def test_it_starts_with_examples(tabs: "Chrome", site: pathlib.Path) -> None:
         tab.wait("id('stop').textContent.includes(arguments[0])", f"names an unknown exercise, {name}: choose one")
     visit_first(tab, (site / "playground.html").as_uri())
     tab.wait("id('start-page').checkVisibility()")
-    assert tab.run("all('.tile').length") == 19 and tab.run("id('new-in-c').disabled")
+    assert tab.run("all('.tile').length") == 21 and tab.run("id('new-in-c').disabled")
     tab.run("all('.tile').find((tile) => tile.textContent.endsWith('strip_mined.s')).click()")
     tab.wait("id('desk').checkVisibility() && text().startsWith('## A strip-mined loop')")
     tab.click("#one")
