@@ -65,6 +65,8 @@ def _refuse_compressed(*data: object) -> None:
 def answer(text: str) -> str:
     """Return JSON with the message for the page, and whether there is work that needs no request. text: the worker's message"""
     asked = json.loads(text)
+    if sys.path_importer_cache.get(LATER, LATER) is None:
+        del sys.path_importer_cache[LATER]  # an import looked there before the archive was loaded
     message = _message(asked)
     if "keep" in asked and _desk:
         _desk.keep()
